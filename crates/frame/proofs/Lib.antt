@@ -1,0 +1,6 @@
+pub mod Found
+pub mod Listed
+pub mod Shapes
+pub mod Judged
+pub mod Accepted
+pub mod RoundTrip

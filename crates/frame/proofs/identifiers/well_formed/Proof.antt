@@ -1,0 +1,12 @@
+-- `frame::identifiers::well_formed` meets its contract.
+-- Assumes nothing.
+use borrow.Author.Needs.{needs}
+use Rattle.frame.proofs.identifiers.well_formed.Statement.{statement}
+use Rattle.frame.proofs.identifiers.well_formed.Tie as tie
+
+returns : tie.Need-returns
+returns c = cc
+
+pub well-formed-spec : {M : Type 1} → statement M
+well-formed-spec =
+    tie.close (tie.spec (λ c κs. search needs) (λ c κs. search needs) (λ c κs. search needs) (λ c κs. search needs) returns)

@@ -1,0 +1,22 @@
+-- `frame::reader::frame_refusal` meets its contract.
+-- Assumes nothing.
+use borrow.Author.Needs.{needs}
+use Rattle.frame.proofs.reader.frame_refusal.Statement.{statement}
+use Rattle.frame.proofs.reader.frame_refusal.Tie as tie
+
+returns : tie.Need-returns
+returns c = cc
+
+pub frame-refusal-spec : {M : Type 1} → statement M
+frame-refusal-spec =
+    tie.close
+    (tie.spec
+    (λ c κs. search needs)
+    (λ c κs. search needs)
+    (λ c κs. search needs)
+    (λ c κs. search needs)
+    (λ c κs. search needs)
+    (λ c κs. search needs)
+    (λ c κs. search needs)
+    (λ c κs. search needs)
+    returns)

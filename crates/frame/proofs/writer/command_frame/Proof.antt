@@ -1,0 +1,15 @@
+-- `frame::writer::command_frame` meets its contract.
+-- Assumes nothing.
+use Rattle.frame.proofs.Listed.{row-priority}
+use borrow.Author.Needs.{needs}
+use Rattle.frame.proofs.writer.command_frame.Statement.{statement}
+use Rattle.frame.proofs.writer.command_frame.Tie as tie
+
+identifier-of-requires : tie.Need-identifier-of-requires
+identifier-of-requires c κs = rw (c .row-for .ensures) (row-priority (c .before .args .own) (c .before .args .d .1))
+
+returns : tie.Need-returns
+returns c = cc
+
+pub command-frame-spec : {M : Type 1} → statement M
+command-frame-spec = tie.close (tie.spec (λ c κs. search needs) identifier-of-requires returns)

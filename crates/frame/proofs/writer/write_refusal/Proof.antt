@@ -1,0 +1,19 @@
+-- `frame::writer::write_refusal` meets its contract.
+-- Assumes nothing.
+use borrow.Author.Needs.{needs}
+use Rattle.frame.proofs.writer.write_refusal.Statement.{statement}
+use Rattle.frame.proofs.writer.write_refusal.Tie as tie
+
+returns : tie.Need-returns
+returns c = cc
+
+pub write-refusal-spec : {M : Type 1} → statement M
+write-refusal-spec =
+    tie.close
+    (tie.spec
+    (λ c κs. search needs)
+    (λ c κs. search needs)
+    (λ c κs. search needs)
+    (λ c κs. search needs)
+    (λ c κs. search needs)
+    returns)

@@ -1,0 +1,9 @@
+-- Read in this order.
+pub mod Identifiers
+pub mod Rows
+pub mod Bytes
+pub mod Messages
+pub mod Fields
+pub mod Reading
+pub mod Writing
+pub mod Statements
