@@ -5,7 +5,7 @@ use Rattle.frame.proofs.reader.frame_refusal.Statement.{statement}
 use Rattle.frame.proofs.reader.frame_refusal.Tie as tie
 
 returns : tie.Need-returns
-returns c = cc
+returns c = rw (← c .before .handed-type .ensures, ← c .before .before .before .plain-identifier .ensures, ← c .before .before .before .before .before .well-formed .ensures, ← c .before .before .before .before .before .before .before .known-priority .ensures, c .unless4 .ensures, c .before .before .unless3 .ensures, c .before .before .before .before .unless2 .ensures, c .before .before .before .before .before .before .unless .ensures)
 
 pub frame-refusal-spec : {M : Type 1} → statement M
 frame-refusal-spec =
