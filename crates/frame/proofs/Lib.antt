@@ -1,4 +1,3 @@
-pub mod Found
 pub mod Listed
 pub mod Shapes
 pub mod Judged

@@ -2,11 +2,11 @@
 -- Assumes nothing.
 use Prim.Native.Nat.{ℕ}
 use mathlib.Core.Path.{_≡_, refl}
-use mathlib.Core.List.{List, [], _∷_}
+use mathlib.Core.List.{List, [], _∷_, _++_, map}
 use mathlib.Core.Bool.{false}
 use lib.Dec.{eqb}
 use borrow.Author.Tests.{ne-eqb}
-use Rattle.laws.specs.Tests.{among}
+use Rattle.laws.specs.Tests.{among, firstFor}
 
 -- the tuple that a match's rest is: acc, and then that x is none of the numbers
 abbrev pub NoneOf : Type 0 → ℕ → List ℕ → Type 0
@@ -31,3 +31,14 @@ among-misses x (k ∷ ks) h = rw (ne-eqb x k (h .0)) (among-misses x ks (h .1))
 
 pub not-among : (x : ℕ) (ks : List ℕ) → NoneOf (Unit {0}) x ks → among x ks ≡ false
 not-among x ks h = among-misses x ks (misses x ks h)
+
+-- lines of a table that are not for the number are passed over
+passed : {A B : Type 0} (key : A → ℕ) (says : A → B) (none : B) (ls rest : List A) (x : ℕ) → Misses x (map key ls) → firstFor key says none (ls ++ rest) x ≡ firstFor key says none rest x
+passed key says none [] rest x h = refl
+passed key says none (l ∷ ls) rest x h = rw (ne-eqb x (key l) (h .0)) (passed key says none ls rest x (h .1))
+
+pub passed-over :
+    {A B : Type 0} (key : A → ℕ) (says : A → B) (none : B) (ls rest : List A) (x : ℕ) →
+    NoneOf (Unit {0}) x (map key ls) →
+    firstFor key says none (ls ++ rest) x ≡ firstFor key says none rest x
+passed-over key says none ls rest x h = passed key says none ls rest x (misses x (map key ls) h)
