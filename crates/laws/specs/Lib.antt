@@ -1,2 +1,4 @@
 pub mod Refusals
 pub mod Tests
+pub mod Tab
+pub mod Copies

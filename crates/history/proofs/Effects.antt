@@ -1,0 +1,212 @@
+-- The statements of specs/Effects.antt. Assumes nothing.
+use Prim.Native.Nat.{ℕ, zero, suc, min, _<_, _≤_}
+use native.Mathlib.Omega.{arith}
+use mathlib.Core.Path.{_≡_, refl, sym, ap, _∙_, subst}
+use mathlib.Core.Bool.{false, cond}
+use mathlib.Core.List.{List, _∷_}
+use mathlib.Core.Option.{Option, none, some}
+use lib.Dec.{eqb, ltb}
+use lib.ListN.{length}
+use borrow.Author.Tests.{eq-eqb, ne-eqb, lt-ltb, le-ltb}
+use mathlib.Core.Logic.{_≢_}
+use Rattle.laws.specs.Refusals.{noRoom}
+use Rattle.frame.specs.Rows.{noType}
+use Rattle.frame.specs.declared.messages.Command.{Command}
+use Rattle.picture.specs.declared.Run.{Run}
+use Rattle.picture.specs.declared.Outcome.the-variants.{Done}
+use Rattle.picture.specs.Layout.{size}
+use Rattle.picture.specs.Runs.{runOf, typeEntered}
+use Rattle.picture.specs.Limits.{room, depth}
+use Rattle.history.specs.Standing.{handed, entersAs, meant, read, sense, Frame, address, Meaning, refuses, names, enters, meaning, Known, typed, typeOf, gave, latest, more, listed, Judgement, refused, accepted, exchanged, judged, judgement, outcomeOf, Event, hear, back, stands, butLatest, struck, counted, standing, kept, answered}
+use Rattle.history.specs.Demand3.{doing, runBytes, Tells, Answers}
+use Rattle.history.specs.Effects.{Reads, HearsCommand, HearsEntry, HearsExchange, Alike, Own, Effect, Effects, SameAnswers, BackOver, Sixteenth, RoomAgain, RoomUsedAgain}
+use Rattle.history.proofs.Shows.{other-type, other-latest, here-type, here-latest}
+use Rattle.history.proofs.Demand3.{demand-3}
+
+-- two pictures that tell the same of an address answer alike
+alike : (b c : List ℕ) (a : ℕ) (t : Option ℕ) (known : ℕ → Known) → Tells b a t known → Tells c a t known → Alike b c a
+alike b c a t known x y =
+    record {
+      type-of = x .type-of ∙ sym (y .type-of);
+      number = λ q. x .number q ∙ sym (y .number q);
+      heard = λ name out. x .heard name out ∙ sym (y .heard name out);
+      name-of = λ name out. x .name-of name out ∙ sym (y .name-of name out);
+      memory = λ out. x .memory out ∙ sym (y .memory out);
+    }
+
+-- what is told may be put otherwise
+retold : (b : List ℕ) (a : ℕ) {t u : Option ℕ} {known other : ℕ → Known} → t ≡ u → ((p : ℕ) → known p ≡ other p) → Tells b a t known → Tells b a u other
+retold b a {t} {u} {known} {other} e q x = subst (λ (s : Option ℕ). Tells b a s other) e (subst (λ (k : ℕ → Known). Tells b a t k) (λ i p. q p i) x)
+
+-- an accepted frame stands
+done-stands : (j : Judgement) (f : Frame) (S : List Frame) → outcomeOf j ≡ Done → stands j f S ≡ f ∷ S
+unfolding outcomeOf stands
+done-stands (refused n) f S e = absurd (let z : _≡_ {A = ℕ} 0 1 = cc in omega arith)
+done-stands accepted f S e = refl
+done-stands exchanged f S e = refl
+
+module _ (b : List ℕ) (whole : size ≤ length b) (h : List Event) (f : Frame) where
+  abbrev S : List Frame
+  S = standing h
+
+  before-it : Answers (runBytes b h) h
+  before-it = demand-3 b whole h
+
+  after-it : Answers (runBytes b (hear f ∷ h)) (hear f ∷ h)
+  after-it = demand-3 b whole (hear f ∷ h)
+
+  bytes-after : runBytes b (hear f ∷ h) ≡ doing (hear f) (runBytes b h) .buffer
+  unfolding runBytes
+  bytes-after = refl
+
+  it-stands : outcomeOf (judgement S f) ≡ Done → standing (hear f ∷ h) ≡ f ∷ S
+  unfolding standing
+  it-stands e = done-stands (judgement S f) f S e
+
+  answer-is : doing (hear f) (runBytes b h) .outcome ≡ outcomeOf (judgement S f)
+  unfolding answered
+  answer-is = before-it .next (hear f)
+
+  told-after : outcomeOf (judgement S f) ≡ Done → (a : ℕ) → Tells (doing (hear f) (runBytes b h) .buffer) a (typeOf (f ∷ S) a) (latest (f ∷ S) a)
+  told-after e a = rw (← (it-stands e), ← bytes-after) (after-it .each a)
+
+  own-by : outcomeOf (judgement S f) ≡ Done → (m : Meaning) → meaning (typeOf S (address f)) f ≡ m
+      → Own (doing (hear f) (runBytes b h) .buffer) (address f) (typeOf S (address f)) (latest S (address f)) m
+  unfolding typed gave
+  own-by e (refuses n) q = retold _ (address f) (here-type f S (refuses n) q) (λ p. here-latest f S (refuses n) p q) (told-after e (address f))
+  own-by e (names r) q = retold _ (address f) (here-type f S (names r) q) (λ p. here-latest f S (names r) p q) (told-after e (address f))
+  own-by e (enters k r) q = retold _ (address f) (here-type f S (enters k r) q) (λ p. here-latest f S (enters k r) p q) (told-after e (address f))
+
+  effect : outcomeOf (judgement S f) ≡ Done → Effect (runBytes b h) (doing (hear f) (runBytes b h) .buffer) S f
+  effect e =
+      record {
+        elsewhere =
+            λ a d.
+            let n : eqb (address f) a ≡ false = ne-eqb (address f) a (λ q. d (sym q)) in
+            alike (runBytes b h) _ a (typeOf S a) (latest S a) (before-it .each a) (retold _ a (other-type f S a n) (λ p. other-latest f S a p n) (told-after e a));
+        own = own-by e (meaning (typeOf S (address f)) f) refl;
+      }
+
+  -- ---- a step back over it
+  kept-some : judgement S f ≡ accepted → struck (kept (hear f ∷ h)) (f ∷ S) ≡ S
+  unfolding kept counted struck butLatest
+  kept-some e = rw e (go (kept h))
+    where
+      go : (k : ℕ) → struck (min depth (suc k)) (f ∷ S) ≡ S
+      go k = let q : min depth (suc k) ≡ suc (min 15 k) = omega arith in rw q
+
+  done-it : judgement S f ≡ accepted → outcomeOf (judgement S f) ≡ Done
+  unfolding outcomeOf
+  done-it e = rw e
+
+  stands-again : judgement S f ≡ accepted → standing (back ∷ hear f ∷ h) ≡ S
+  unfolding standing
+  stands-again e = rw (done-stands (judgement S f) f S (done-it e)) (kept-some e)
+
+  back-answers : judgement S f ≡ accepted → SameAnswers (runBytes b h) (runBytes b (back ∷ hear f ∷ h))
+  unfolding answered
+  back-answers e =
+      let c = demand-3 b whole (back ∷ hear f ∷ h) in
+      record {
+        addresses-listed = λ out. before-it .addresses-listed out ∙ sym (rw (stands-again e) at (c .addresses-listed out));
+        each = λ a. alike (runBytes b h) (runBytes b (back ∷ hear f ∷ h)) a (typeOf S a) (latest S a) (before-it .each a) (rw (stands-again e) at (c .each a));
+        next = λ g. before-it .next (hear g) ∙ sym (rw (stands-again e) at (c .next (hear g)));
+      }
+
+pub effects : Effects
+effects b whole h f e = effect b whole h f (sym (answer-is b whole h f) ∙ e)
+
+pub back-over : BackOver
+back-over = back-answers
+
+-- ---- by what the reader gives
+abbrev meaningOf : Option ℕ → Command → Meaning
+meaningOf t m = sense t (entersAs (typeEntered m) (runOf (handed t) m))
+
+reads-means : (t : Option ℕ) (f : Frame) (m : Command) → Reads (handed t) f m → meaning t f ≡ meaningOf t m
+unfolding meaning read meant
+reads-means t f m e = rw e
+
+-- the same type, or no entry: the run is named
+named-by : (kind t : ℕ) (r : Run) → cond (eqb t 0) kind t ≡ kind → sense (some kind) (entersAs t r) ≡ names r
+unfolding sense entersAs
+named-by kind zero r e = refl
+named-by kind (suc t) r e = let q : suc t ≡ kind = rw (ne-eqb (suc t) 0 (λ p. omega arith)) at e in rw (eq-eqb kind (suc t) (sym q))
+
+entered-by : (t : ℕ) (r : Run) → 0 < t → sense none (entersAs t r) ≡ enters t r
+unfolding sense entersAs
+entered-by zero r h = absurd (omega arith)
+entered-by (suc t) r h = refl
+
+exchanged-by : (kind t : ℕ) (r : Run) → 0 < t → t ≢ kind → sense (some kind) (entersAs t r) ≡ enters t r
+unfolding sense entersAs
+exchanged-by kind zero r h d = absurd (omega arith)
+exchanged-by kind (suc t) r h d = rw (ne-eqb kind (suc t) (λ q. d (sym q)))
+
+module _ (b : List ℕ) (whole : size ≤ length b) (h : List Event) (f : Frame) (t : Option ℕ) (m : Meaning) (t-is : typeOf (standing h) (address f) ≡ t) (m-is : meaning t f ≡ m) where
+  judged-as : judgement (standing h) f ≡ judged t (listed (standing h)) m
+  unfolding judgement
+  judged-as = rw (t-is, m-is)
+
+  heard-own : outcomeOf (judged t (listed (standing h)) m) ≡ Done
+      → (doing (hear f) (runBytes b h) .outcome ≡ Done) × Own (doing (hear f) (runBytes b h) .buffer) (address f) t (latest (standing h) (address f)) m
+  heard-own e =
+      let d : outcomeOf (judgement (standing h) f) ≡ Done = ap outcomeOf judged-as ∙ e in
+      (answer-is b whole h f ∙ d, rw t-is at (own-by b whole h f d m (ap (λ (x : Option ℕ). meaning x f) t-is ∙ m-is)))
+
+pub hears-command : HearsCommand
+unfolding judged outcomeOf
+hears-command b whole h f kind m t e same =
+    let q = reads-means (some kind) f m e ∙ named-by kind (typeEntered m) (runOf kind m) same in
+    let o = heard-own b whole h f (some kind) (names (runOf kind m)) t q refl in
+    record { answer = o .0; tells = o .1 }
+
+pub hears-entry : HearsEntry
+unfolding judged outcomeOf
+hears-entry b whole h f m t e some-type free =
+    let q = reads-means none f m e ∙ entered-by (typeEntered m) (runOf noType m) some-type in
+    let o = heard-own b whole h f none (enters (typeEntered m) (runOf noType m)) t q (rw (lt-ltb (listed (standing h)) room free)) in
+    record { answer = o .0; tells = o .1 }
+
+pub hears-exchange : HearsExchange
+unfolding judged outcomeOf kept counted
+hears-exchange b whole h f kind m t e some-type other =
+    let q = reads-means (some kind) f m e ∙ exchanged-by kind (typeEntered m) (runOf kind m) some-type other in
+    let o = heard-own b whole h f (some kind) (enters (typeEntered m) (runOf kind m)) t q refl in
+    (record { answer = o .0; tells = o .1 }, rw (judged-as b whole h f (some kind) (enters (typeEntered m) (runOf kind m)) t q))
+
+-- ---- the sixteenth and the seventeenth module
+module _ (b : List ℕ) (whole : size ≤ length b) (h : List Event) (f g : Frame) (k l : ℕ) (r q : Run) (s : Sixteenth (standing h) f g k l r q) where
+  judged-new : (T : List Frame) (x : Frame) (n : ℕ) (p : Run) → typeOf T (address x) ≡ none → meaning none x ≡ enters n p
+      → judgement T x ≡ cond (ltb (listed T) room) accepted (refused noRoom)
+  unfolding judgement judged
+  judged-new T x n p e m = rw (e, m)
+
+  f-accepted : judgement (standing h) f ≡ accepted
+  f-accepted = judged-new (standing h) f k r (s .f-new) (s .f-enters) ∙ rw (lt-ltb (listed (standing h)) room (omega (arith, s .fifteen)))
+
+  g-first : judgement (standing h) g ≡ accepted
+  g-first = judged-new (standing h) g l q (s .g-new) (s .g-enters) ∙ rw (lt-ltb (listed (standing h)) room (omega (arith, s .fifteen)))
+
+  more-listed : listed (f ∷ standing h) ≡ room
+  unfolding listed more
+  more-listed = rw (s .f-new, s .f-enters) (s .fifteen)
+
+  g-refused : judgement (f ∷ standing h) g ≡ refused noRoom
+  g-refused =
+      judged-new (f ∷ standing h) g l q (other-type f (standing h) (address g) (ne-eqb (address f) (address g) (s .apart)) ∙ s .g-new) (s .g-enters)
+      ∙ rw (le-ltb (listed (f ∷ standing h)) room (omega (arith, more-listed)))
+
+  room-again : RoomAgain b h f g
+  unfolding outcomeOf
+  room-again =
+      let back-is = back-answers b whole h f f-accepted in
+      record {
+        entered = answer-is b whole h f ∙ ap outcomeOf f-accepted;
+        full = answer-is b whole (hear f ∷ h) g ∙ ap (λ (T : List Frame). outcomeOf (judgement T g)) (it-stands b whole h f (ap outcomeOf f-accepted)) ∙ ap outcomeOf g-refused;
+        gone = back-is .each (address f);
+        again = sym (back-is .next g) ∙ answer-is b whole h g ∙ ap outcomeOf g-first;
+      }
+
+pub room-used-again : RoomUsedAgain
+room-used-again = room-again

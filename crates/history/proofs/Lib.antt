@@ -1,0 +1,25 @@
+-- Read in this order: the machine against the standing frames, the bytes against the machine, the questions, the demand.
+pub mod Rows
+pub mod Modules
+pub mod Shows
+pub mod Machine
+pub mod ModulesListed
+pub mod Stores
+pub mod Ring
+pub mod Parts
+pub mod Told
+pub mod Noted
+pub mod NewRecord
+pub mod Entered
+pub mod Exchanged
+pub mod Undoing
+pub mod Found
+pub mod Speaks
+pub mod Accepted
+pub mod Steps
+pub mod Fills
+pub mod Asked
+pub mod Demand3
+pub mod Effects
+pub mod Refused
+pub mod Worked

@@ -1,0 +1,140 @@
+-- Demand 3 of the machine, as specs/Demand3.antt states it. The invariant `Ready log ms S`: the modules show what the standing frames tell, and undoing the log's
+-- latest entry gives modules that are ready, with the rest of the log, for the standing frames but the latest. Assumes nothing.
+use Prim.Native.Nat.{ℕ, zero, suc, pred, min, _<_}
+use mathlib.Core.Path.{_≡_, refl, sym, ap, _∙_}
+use mathlib.Core.Bool.{Bool, true, false, cond}
+use mathlib.Core.List.{List, [], _∷_, _++_}
+use mathlib.Core.Option.{Option, none, some}
+use lib.Dec.{ltb}
+use lib.ListN.{length, getD, set, take, length-take}
+use lib.Seq.{set-set, set-getD, getD-set-same}
+use Rattle.laws.specs.Refusals.{noRoom}
+use Rattle.picture.specs.declared.Run.{Run}
+use Rattle.picture.specs.Places.{places}
+use Rattle.picture.specs.Runs.{sayings}
+use Rattle.picture.specs.Limits.{room, depth}
+use Rattle.history.specs.Standing.{Frame, address, Meaning, refuses, names, enters, meaning, typeOf, unknown, latest, listed, Judgement, refused, accepted, judged, judgement, Event, hear, back, stands, butLatest, struck, counted, standing, kept, granted, answered}
+use Rattle.history.specs.Machine.{Module, Undo, same, entered, wrote, State, Step, find, slot, olds, told-by, restored, new, nobody, undo, logged, kept-as, hears, backs, step, run}
+use Rattle.history.specs.Demand3.{MachineAgrees}
+use Rattle.history.proofs.Rows.{restore-write}
+use Rattle.history.proofs.Modules.{none-some, find-slot, slot-lt, butLast-append}
+use Rattle.history.proofs.Shows.{At, Shows, kind-at, shows-same, shows-told, shows-new, shows-exchanged}
+
+abbrev Ready : List Undo → List Module → List Frame → Type 0
+Ready [] ms S = Shows ms S
+Ready (u ∷ us) ms S = Shows ms S × Ready us (undo u ms) (butLatest S)
+
+ready-shows : (us : List Undo) (ms : List Module) (S : List Frame) → Ready us ms S → Shows ms S
+ready-shows [] ms S h = h
+ready-shows (u ∷ us) ms S h = h .0
+
+-- a log may forget its oldest entries
+ready-take : (n : ℕ) (us : List Undo) (ms : List Module) (S : List Frame) → Ready us ms S → Ready (take n us) ms S
+ready-take zero us ms S h = ready-shows us ms S h
+ready-take (suc n) [] ms S h = h
+ready-take (suc n) (u ∷ us) ms S h = (h .0, ready-take n us (undo u ms) (butLatest S) (h .1))
+
+-- a step that an enters of the log undoes
+ready-more : (us : List Undo) (ms ms′ : List Module) (f : Frame) (S : List Frame) (u : Undo) → undo u ms′ ≡ ms → Shows ms′ (f ∷ S) → Ready us ms S → Ready (take depth (u ∷ us)) ms′ (f ∷ S)
+unfolding butLatest
+ready-more us ms ms′ f S u e s h = ready-take depth (u ∷ us) ms′ (f ∷ S) (s, rw e h)
+
+restored-told : (r : Run) (m : Module) → restored (r .start) (olds (m .places) (r .start) (sayings r)) (told-by r m) ≡ m
+unfolding restored told-by
+restored-told r m = rw restore-write
+
+undo-wrote : (ms : List Module) (a : ℕ) (r : Run) (m : Module) → find ms a ≡ some m
+    → undo (wrote (slot ms a) (r .start) (olds (m .places) (r .start) (sayings r))) (set ms (slot ms a) (told-by r m)) ≡ ms
+unfolding undo
+undo-wrote ms a r m x =
+    rw (set-set, getD-set-same ms (slot ms a) (told-by r m) nobody (slot-lt ms a m x), restored-told r m)
+    (ap (set ms (slot ms a)) (sym (find-slot ms a m x)) ∙ set-getD ms (slot ms a) nobody)
+
+-- What a step has to meet: the answer, the count and the modules.
+record Met (st : Step) (o : Judgement) (f : Frame) (S : List Frame) (k : ℕ) : Type 0 where
+  ready : Ready (st .state .log) (st .state .modules) (stands o f S)
+  count : length (st .state .log) ≡ counted o k
+  answers : st .answer ≡ o
+
+met-logged : (us : List Undo) (ms ms′ : List Module) (f : Frame) (S : List Frame) (u : Undo) (k : ℕ) → undo u ms′ ≡ ms → Shows ms′ (f ∷ S) → Ready us ms S → length us ≡ k
+    → Met (logged ms′ u us) accepted f S k
+unfolding logged stands counted
+met-logged us ms ms′ f S u k e s h c =
+    record { ready = ready-more us ms ms′ f S u e s h; count = length-take depth (u ∷ us) ∙ ap (λ (n : ℕ). min depth (suc n)) c; answers = refl }
+
+module _ (s : State) (f : Frame) (S : List Frame) (k : ℕ) (ready : Ready (s .log) (s .modules) S) (count : length (s .log) ≡ k) where
+  shown : Shows (s .modules) S
+  shown = ready-shows (s .log) (s .modules) S ready
+
+  heard : (x : Option Module) (r : Meaning) → find (s .modules) (address f) ≡ x → At x S (address f) → meaning (typeOf S (address f)) f ≡ r
+      → Met (hears x (address f) r s) (judged (typeOf S (address f)) (listed S) r) f S k
+  unfolding hears judged kept-as stands counted undo
+  heard x (refuses n) e h m = record { ready = ready; count = count; answers = refl }
+  heard none (names r) e h m = met-logged (s .log) (s .modules) (s .modules) f S same k refl (shows-same f S (s .modules) r e m shown) ready count
+  heard (some w) (names r) e h m =
+      met-logged (s .log) (s .modules) (set (s .modules) (slot (s .modules) (address f)) (told-by r w)) f S
+      (wrote (slot (s .modules) (address f)) (r .start) (olds (w .places) (r .start) (sayings r))) k
+      (undo-wrote (s .modules) (address f) r w e) (shows-told f S (s .modules) r w e m shown) ready count
+  heard none (enters t r) e h m = rw (h, ← (shown .count)) (go (ltb (length (s .modules)) room))
+    where
+      go : (c : Bool) → Met (cond c (logged (s .modules ++ (new (address f) t r ∷ [])) entered (s .log)) (kept-as s noRoom)) (cond c accepted (refused noRoom)) f S k
+      go true =
+          met-logged (s .log) (s .modules) (s .modules ++ (new (address f) t r ∷ [])) f S entered k
+          (butLast-append (s .modules) (new (address f) t r)) (shows-new f S (s .modules) t r e m shown) ready count
+      go false = record { ready = ready; count = count; answers = refl }
+  heard (some w) (enters t r) e h m = rw (h .kind-is) (record { ready = shows-exchanged f S (s .modules) t r w e m shown; count = refl; answers = refl })
+
+  hear-met : Met (step (hear f) s) (judgement S f) f S k
+  unfolding step judgement
+  hear-met =
+      rw (kind-at (find (s .modules) (address f)) S (address f) (shown .each (address f)))
+      (heard (find (s .modules) (address f)) (meaning (typeOf S (address f)) f) refl (shown .each (address f)) refl)
+
+-- What is so after a run of events.
+record Held (h : List Event) : Type 0 where
+  ready : Ready (run h .log) (run h .modules) (standing h)
+  count : length (run h .log) ≡ kept h
+
+held-back : (ms : List Module) (log : List Undo) (S : List Frame) (k : ℕ) → Ready log ms S → length log ≡ k
+    → Ready (backs ms log .state .log) (backs ms log .state .modules) (struck k S) × (length (backs ms log .state .log) ≡ pred k) × (backs ms log .answer ≡ granted k)
+unfolding backs struck granted kept-as
+held-back ms [] S k r c = rw (← c) (r, refl, refl)
+held-back ms (u ∷ log) S k r c = rw (← c) (r .1, refl, refl)
+
+shows-nothing : Shows [] []
+unfolding find listed typeOf
+shows-nothing = record { count = refl; each = λ a. refl }
+
+held : (h : List Event) → Held h
+unfolding run standing step
+held [] = record { ready = shows-nothing; count = refl }
+held (hear f ∷ h) =
+    let m = hear-met (run h) f (standing h) (kept h) (held h .ready) (held h .count) in
+    record { ready = m .ready; count = m .count }
+held (back ∷ h) =
+    let m = held-back (run h .modules) (run h .log) (standing h) (kept h) (held h .ready) (held h .count) in
+    record { ready = m .0; count = m .1 }
+
+-- What is held at a place of a module.
+place-met : (x : Option Module) (S : List Frame) (a : ℕ) → At x S a → (m : Module) → x ≡ some m → (p : ℕ) → p < places → getD (m .places) p unknown ≡ latest S a p
+place-met none S a h m e p l = absurd (none-some e)
+place-met (some w) S a h m e p l = let o : w ≡ m = cc in rw o at (h .holds p l)
+
+module _ (h : List Event) where
+  pub shown-after : Shows (run h .modules) (standing h)
+  shown-after = ready-shows (run h .log) (run h .modules) (standing h) (held h .ready)
+
+  next-met : (e : Event) → step e (run h) .answer ≡ answered h e
+  unfolding answered step
+  next-met (hear f) = hear-met (run h) f (standing h) (kept h) (held h .ready) (held h .count) .answers
+  next-met back = held-back (run h .modules) (run h .log) (standing h) (kept h) (held h .ready) (held h .count) .2
+
+pub machine-agrees : MachineAgrees
+machine-agrees h =
+    record {
+      count = held h .count;
+      type-at = λ a. kind-at (find (run h .modules) a) (standing h) a (shown-after h .each a);
+      place-at = λ a m e p l. place-met (find (run h .modules) a) (standing h) a (shown-after h .each a) m e p l;
+      taken = shown-after h .count;
+      next = next-met h;
+    }

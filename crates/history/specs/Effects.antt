@@ -1,0 +1,106 @@
+-- What an accepted frame changes, place by place; and what a step back over an entry gives back. The proofs are proofs/Effects.antt.
+use Prim.Native.Nat.{ℕ, suc, _<_, _≤_}
+use mathlib.Core.Path.{_≡_}
+use mathlib.Core.Logic.{_≢_}
+use mathlib.Core.List.{List, _∷_}
+use mathlib.Core.Option.{Option, none, some}
+use lib.ListN.{length}
+use Rattle.laws.specs.Refusals.{noRoom}
+use Rattle.frame.specs.Identifiers.{addressOf}
+use Rattle.frame.specs.Rows.{noType}
+use Rattle.frame.specs.Reading.{reading}
+use Rattle.frame.specs.declared.messages.Command.{Command}
+use Rattle.frame.specs.declared.messages.Message.the-variants as message
+use Rattle.frame.specs.declared.reader.Reading.the-variants.{Read}
+use Rattle.picture.specs.declared.Run.{Run}
+use Rattle.picture.specs.declared.Outcome.the-variants.{Done, Refused}
+use Rattle.picture.specs.Layout.{size}
+use Rattle.picture.specs.Places.{Asked}
+use Rattle.picture.specs.Runs.{said, runOf, typeEntered}
+use Rattle.history.specs.Speaks.{heardAs}
+use Rattle.picture.specs.Limits.{room}
+use Rattle.history.specs.Standing.{Frame, address, Meaning, refuses, names, enters, meaning, Known, unknown, after, typeOf, latest, listed, accepted, judgement, Event, hear, back, standing, kept}
+use Rattle.picture.specs.Questions.{typeAnswer, numberAnswer, listing, nameHeard, nameWhole, memoryRow}
+use Rattle.history.specs.Demand3.{doing, runBytes, Tells}
+
+-- Every question on the address a is answered alike.
+pub record Alike (b c : List ℕ) (a : ℕ) : Type 0 where
+  pub type-of : typeAnswer b a ≡ typeAnswer c a
+  pub number : (q : Asked) → numberAnswer b a q ≡ numberAnswer c a q
+  pub heard : (name : ℕ) (out : List ℕ) → nameHeard b a name out ≡ nameHeard c a name out
+  pub name-of : (name : ℕ) (out : List ℕ) → nameWhole b a name out ≡ nameWhole c a name out
+  pub memory : (out : List ℕ) → memoryRow b a out ≡ memoryRow c a out
+
+-- What the bytes then tell of the frame's own address, by what the frame means: each place that it names holds what it says, and every other place
+-- what it held; an entry begins with every place unknown.
+abbrev pub Own : List ℕ → ℕ → Option ℕ → (ℕ → Known) → Meaning → Type 0
+Own c a t known (refuses n) = Tells c a t known
+Own c a t known (names r) = Tells c a t (λ p. after (said r p) (known p))
+Own c a t known (enters k r) = Tells c a (some k) (λ p. after (said r p) unknown)
+
+pub record Effect (b c : List ℕ) (S : List Frame) (f : Frame) : Type 0 where
+  pub elsewhere : (a : ℕ) → a ≢ address f → Alike b c a
+  pub own : Own c (address f) (typeOf S (address f)) (latest S (address f)) (meaning (typeOf S (address f)) f)
+
+-- An accepted frame changes the module that it addresses, as its run says, and no other.
+abbrev pub Effects : Type 0
+Effects =
+    (b : List ℕ) → size ≤ length b → (h : List Event) (f : Frame) → doing (hear f) (runBytes b h) .outcome ≡ Done
+    → Effect (runBytes b h) (doing (hear f) (runBytes b h) .buffer) (standing h) f
+
+-- The same by what the reader gives. The frame is accepted, and its address then tells this:
+pub record HeardAs (b : List ℕ) (h : List Event) (f : Frame) (t : Option ℕ) (known : ℕ → Known) : Type 0 where
+  pub answer : doing (hear f) (runBytes b h) .outcome ≡ Done
+  pub tells : Tells (doing (hear f) (runBytes b h) .buffer) (address f) t known
+
+abbrev pub Reads : ℕ → Frame → Command → Type 0
+Reads kind f m = reading kind (f .identifier) (f .remote) (f .bytes) ≡ Read (addressOf (f .identifier)) (message.Tells m)
+
+-- a command at a listed module, also FF of the module's own type: the places of its run, and no other, hold what it says
+abbrev pub HearsCommand : Type 0
+HearsCommand =
+    (b : List ℕ) → size ≤ length b → (h : List Event) (f : Frame) (kind : ℕ) (m : Command) → typeOf (standing h) (address f) ≡ some kind → Reads kind f m
+    → heardAs kind m ≡ kind → HeardAs b h f (some kind) (λ p. after (said (runOf kind m) p) (latest (standing h) (address f) p))
+
+-- FF at an unlisted address while there is room: a module with nothing known but its build
+abbrev pub HearsEntry : Type 0
+HearsEntry =
+    (b : List ℕ) → size ≤ length b → (h : List Event) (f : Frame) (m : Command) → typeOf (standing h) (address f) ≡ none → Reads noType f m
+    → 0 < typeEntered m → listed (standing h) < room → HeardAs b h f (some (typeEntered m)) (λ p. after (said (runOf noType m) p) unknown)
+
+-- FF of another type at a listed module: likewise, and no step back is kept
+abbrev pub HearsExchange : Type 0
+HearsExchange =
+    (b : List ℕ) → size ≤ length b → (h : List Event) (f : Frame) (kind : ℕ) (m : Command) → typeOf (standing h) (address f) ≡ some kind → Reads kind f m
+    → 0 < typeEntered m → typeEntered m ≢ kind
+    → HeardAs b h f (some (typeEntered m)) (λ p. after (said (runOf kind m) p) unknown) × (kept (hear f ∷ h) ≡ 0)
+
+-- A step back over an accepted frame (no exchange): every question is answered as before the frame.
+pub record SameAnswers (b c : List ℕ) : Type 0 where
+  pub addresses-listed : (out : List ℕ) → listing b out ≡ listing c out
+  pub each : (a : ℕ) → Alike b c a
+  pub next : (f : Frame) → doing (hear f) b .outcome ≡ doing (hear f) c .outcome
+
+abbrev pub BackOver : Type 0
+BackOver =
+    (b : List ℕ) → size ≤ length b → (h : List Event) (f : Frame) → judgement (standing h) f ≡ accepted
+    → SameAnswers (runBytes b h) (runBytes b (back ∷ hear f ∷ h))
+
+-- The sixteenth module is entered by f, and g would enter a seventeenth: it is refused; after a step back it has the room.
+pub record Sixteenth (S : List Frame) (f g : Frame) (k l : ℕ) (r q : Run) : Type 0 where
+  pub fifteen : suc (listed S) ≡ room
+  pub f-new : typeOf S (address f) ≡ none
+  pub f-enters : meaning none f ≡ enters k r
+  pub g-new : typeOf S (address g) ≡ none
+  pub apart : address f ≢ address g
+  pub g-enters : meaning none g ≡ enters l q
+
+pub record RoomAgain (b : List ℕ) (h : List Event) (f g : Frame) : Type 0 where
+  pub entered : doing (hear f) (runBytes b h) .outcome ≡ Done
+  pub full : doing (hear g) (runBytes b (hear f ∷ h)) .outcome ≡ Refused noRoom
+  pub gone : Alike (runBytes b h) (runBytes b (back ∷ hear f ∷ h)) (address f)
+  pub again : doing (hear g) (runBytes b (back ∷ hear f ∷ h)) .outcome ≡ Done
+
+abbrev pub RoomUsedAgain : Type 0
+RoomUsedAgain =
+    (b : List ℕ) → size ≤ length b → (h : List Event) (f g : Frame) (k l : ℕ) (r q : Run) → Sixteenth (standing h) f g k l r q → RoomAgain b h f g

@@ -1,0 +1,98 @@
+-- What an accepted message names: places that its type has, and of each of them what document 01 says. The proofs are proofs/Speaks.antt and
+-- proofs/Accepted.antt.
+use Prim.Native.Nat.{ℕ, _+_, _*_, _<_, _≤_}
+use mathlib.Core.Path.{_≡_}
+use mathlib.Core.Bool.{cond}
+use mathlib.Core.List.{List, [], _∷_}
+use lib.Dec.{eqb}
+use lib.ListN.{getD}
+use Rattle.frame.specs.Reading.{reading}
+use Rattle.frame.specs.declared.identifiers.Address.{Address}
+use Rattle.frame.specs.declared.messages.Location.{Location}
+use Rattle.frame.specs.declared.messages.Time.{Time}
+use Rattle.frame.specs.declared.messages.Glow.{Glow}
+use Rattle.frame.specs.declared.messages.Command.{Command}
+use Rattle.frame.specs.declared.messages.Command.the-variants.{TypeIr, TypeBl, CellTold, BlockTold, CellSet, BlockSet, NameOne, NameTwo, NameThree, InputStatus, LedsAll, Leds, BlindStatus, BlindStop, BlindUp, BlindDown}
+use Rattle.frame.specs.declared.messages.Message.the-variants.{Tells}
+use Rattle.frame.specs.declared.reader.Reading.the-variants.{Read}
+use Rattle.picture.specs.declared.Run.{Run}
+use Rattle.picture.specs.Places.{places, yearPlace, weekPlace, ledPlace, blindPlace, nameLength, characterPlace, cellPlace, extentOf}
+use Rattle.picture.specs.Runs.{Saying, silent, asks, tells, said, bit, glowNumber, glowBy, nameOf, runOf, typeEntered}
+use Rattle.picture.specs.Bytes.{countOf}
+
+-- where a run ends, and the places outside it
+abbrev pub endOf : Run → ℕ
+endOf r = r .start + countOf r
+
+abbrev pub Outside : Run → ℕ → Type 0
+Outside r p = r .start ≤ p → p < endOf r → ⊥
+
+-- The run lies in one part of what a module of the type has: the build, the LEDs, the blinds, the names or the cells.
+pub data Lies : ℕ → Run → Type 0 where
+  in-build : {kind : ℕ} {r : Run} → endOf r ≤ weekPlace + 1 → Lies kind r
+  in-leds : {kind : ℕ} {r : Run} → ledPlace 1 ≤ r .start → endOf r ≤ ledPlace 1 + extentOf kind .leds → Lies kind r
+  in-blinds : {kind : ℕ} {r : Run} → blindPlace 1 ≤ r .start → endOf r ≤ blindPlace 1 + extentOf kind .blinds → Lies kind r
+  in-names : {kind : ℕ} {r : Run} → characterPlace kind 1 1 ≤ r .start
+      → endOf r ≤ characterPlace kind 1 1 + nameLength * extentOf kind .names → Lies kind r
+  in-cells : {kind : ℕ} {r : Run} → cellPlace kind 0 ≤ r .start → endOf r ≤ cellPlace kind 0 + extentOf kind .cells → Lies kind r
+
+-- the type that a message is heard as: the type that it enters, else the one handed to the reader
+abbrev pub heardAs : ℕ → Command → ℕ
+heardAs kind m = cond (eqb (typeEntered m) 0) kind (typeEntered m)
+
+-- Every run of an accepted message lies at places that its type has, ...
+abbrev pub RunsLie : Type 0
+RunsLie =
+    (kind identifier remote : ℕ) (bytes : List ℕ) (a : Address) (m : Command)
+    → reading kind identifier remote bytes ≡ Read a (Tells m) → Lies (heardAs kind m) (runOf kind m)
+
+-- ... so that it is inside the record.
+abbrev pub RunsFit : Type 0
+RunsFit =
+    (kind identifier remote : ℕ) (bytes : List ℕ) (a : Address) (m : Command)
+    → reading kind identifier remote bytes ≡ Read a (Tells m) → endOf (runOf kind m) ≤ places
+
+-- what a message says of the place p; and a row of values, told one after the other
+abbrev pub says : ℕ → Command → ℕ → Saying
+says kind m p = said (runOf kind m) p
+
+abbrev pub tellsOf : List ℕ → ℕ → Saying
+tellsOf values i = tells (getD values i 0)
+
+-- on if the on bit is set; else very fast if both others are; else slow, fast or off
+abbrev pub tellsLed : ℕ → ℕ → ℕ → ℕ → Saying
+tellsLed on slow fast i = tells (glowNumber (glowBy (bit on i) (bit slow i) (bit fast i)))
+
+-- What each message that names a place says of it.
+pub record Speaks (kind : ℕ) : Type 0 where
+  -- FE and CC tell cells, FC and CA ask for a change of them
+  pub cell-told : (l : Location) (v : ℕ) → says kind (CellTold l v) (cellPlace kind (l .0)) ≡ tells v
+  pub block-told : (l : Location) (a b c d i : ℕ) → i < 4 → says kind (BlockTold l a b c d) (cellPlace kind (l .0) + i) ≡ tellsOf (a ∷ b ∷ c ∷ d ∷ []) i
+  pub cell-asked : (l : Location) (v : ℕ) → says kind (CellSet l v) (cellPlace kind (l .0)) ≡ asks
+  pub block-asked : (l : Location) (a b c d i : ℕ) → i < 4 → says kind (BlockSet l a b c d) (cellPlace kind (l .0) + i) ≡ asks
+  -- F0, F1, F2 tell characters 1 to 6, 7 to 12, 13 to 16 of the name
+  pub part-one : (n a b c d e f i : ℕ) → i < 6
+      → says kind (NameOne n a b c d e f) (characterPlace kind (nameOf kind n) 1 + i) ≡ tellsOf (a ∷ b ∷ c ∷ d ∷ e ∷ f ∷ []) i
+  pub part-two : (n a b c d e f i : ℕ) → i < 6
+      → says kind (NameTwo n a b c d e f) (characterPlace kind (nameOf kind n) 7 + i) ≡ tellsOf (a ∷ b ∷ c ∷ d ∷ e ∷ f ∷ []) i
+  pub part-three : (n a b c d i : ℕ) → i < 4
+      → says kind (NameThree n a b c d) (characterPlace kind (nameOf kind n) 13 + i) ≡ tellsOf (a ∷ b ∷ c ∷ d ∷ []) i
+  -- F5 to F9 name the LEDs with a one; F4 and EB name all eight
+  pub leds-some : (g : Glow) (mask i : ℕ) → i < 8 → says kind (Leds g mask) (ledPlace 1 + i) ≡ cond (eqb (bit mask i) 1) (tells (glowNumber g)) silent
+  pub leds-all : (on slow fast i : ℕ) → i < 8 → says kind (LedsAll on slow fast) (ledPlace 1 + i) ≡ tellsLed on slow fast i
+  pub leds-status : (x on slow fast i : ℕ) → i < 8 → says kind (InputStatus x on slow fast) (ledPlace 1 + i) ≡ tellsLed on slow fast i
+  -- EC tells the blind's state; 04, 05 and 06 make it unknown
+  pub blind-told : (n a state c d e f : ℕ) → says kind (BlindStatus n a state c d e f) (blindPlace 1) ≡ tells state
+  pub blind-stopped : (n : ℕ) → says kind (BlindStop n) (blindPlace 1) ≡ asks
+  pub blind-up : (n : ℕ) (t : Time) → says kind (BlindUp n t) (blindPlace 1) ≡ asks
+  pub blind-down : (n : ℕ) (t : Time) → says kind (BlindDown n t) (blindPlace 1) ≡ asks
+  -- FF tells the build: bytes 6 and 7 of H'0A', 4 and 5 of H'03'
+  pub year-ir : (a b c year week : ℕ) → says kind (TypeIr a b c year week) yearPlace ≡ tells year
+  pub week-ir : (a b c year week : ℕ) → says kind (TypeIr a b c year week) weekPlace ≡ tells week
+  pub year-bl : (a year week : ℕ) → says kind (TypeBl a year week) yearPlace ≡ tells year
+  pub week-bl : (a year week : ℕ) → says kind (TypeBl a year week) weekPlace ≡ tells week
+  -- no message says anything of a place outside its run; every other command has a run of no place
+  pub elsewhere : (m : Command) (p : ℕ) → Outside (runOf kind m) p → says kind m p ≡ silent
+
+abbrev pub SpeaksOf : Type 0
+SpeaksOf = (kind : ℕ) → Speaks kind

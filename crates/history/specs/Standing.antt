@@ -1,0 +1,176 @@
+-- Demand 3's side: which frames stand, how many steps back are kept, and what the standing frames tell. A reader must believe these definitions;
+-- they know nothing of slots, logs and bytes. Lists of frames and of events have the LATEST first. Assumes nothing.
+use Prim.Native.Nat.{ℕ, zero, suc, pred, min}
+use mathlib.Core.Bool.{Bool, true, false, cond}
+use mathlib.Core.List.{List, [], _∷_}
+use mathlib.Core.Option.{Option, none, some}
+use lib.Dec.{eqb, ltb}
+use Rattle.laws.specs.Refusals.{noRoom, nothingKept}
+use Rattle.frame.specs.Rows.{noType}
+use Rattle.frame.specs.Reading.{reading}
+use Rattle.frame.specs.declared.messages.Message.{Message}
+use Rattle.frame.specs.declared.messages.Message.the-variants.{TypeRequest, Tells}
+use Rattle.frame.specs.declared.reader.Reading.{Reading}
+use Rattle.frame.specs.declared.reader.Reading.the-variants.{Read, Refused}
+use Rattle.picture.specs.declared.Run.{Run}
+use Rattle.picture.specs.declared.Outcome.{Outcome}
+use Rattle.picture.specs.declared.Outcome.the-variants as outcome
+use Rattle.picture.specs.Limits.{room, depth, busAddress}
+use Rattle.picture.specs.Runs.{Saying, silent, asks, tells, said, noRun, runOf, typeEntered}
+
+-- A frame as it is heard.
+pub record Frame : Type 0 where
+  pub identifier : ℕ
+  pub remote : ℕ
+  pub bytes : List ℕ
+
+-- the address that it is about
+abbrev pub address : Frame → ℕ
+address f = busAddress (f .identifier)
+
+-- What a frame means: a refusal; a run of places that it names; or an entry of a type, with the run that holds the build.
+pub data Meaning : Type 0 where
+  refuses : ℕ → Meaning
+  names : Run → Meaning
+  enters : ℕ → Run → Meaning
+
+-- the type handed to the reader: 0 where none is known
+abbrev pub handed : Option ℕ → ℕ
+handed none = noType
+handed (some kind) = kind
+
+-- by the type that a message enters (0: none)
+unfoldable pub entersAs : ℕ → Run → Meaning
+entersAs zero r = names r
+entersAs (suc k) r = enters (suc k) r
+
+-- by the message: the type request names no place
+unfoldable pub meant : ℕ → Message → Meaning
+meant kind TypeRequest = names noRun
+meant kind (Tells m) = entersAs (typeEntered m) (runOf kind m)
+
+-- by what the reader gives
+unfoldable pub read : ℕ → Reading → Meaning
+read kind (Refused n) = refuses n
+read kind (Read a m) = meant kind m
+
+-- an entry of the type that is known already changes only the build
+unfoldable pub sense : Option ℕ → Meaning → Meaning
+sense t (refuses n) = refuses n
+sense t (names r) = names r
+sense none (enters k r) = enters k r
+sense (some t) (enters k r) = cond (eqb t k) (names r) (enters k r)
+
+-- what a frame means, by the type known for its address
+unfoldable pub meaning : Option ℕ → Frame → Meaning
+meaning t f = sense t (read (handed t) (reading (handed t) (f .identifier) (f .remote) (f .bytes)))
+
+-- The type known for an address: that of the latest standing frame that entered it.
+-- (whether the frame is at the address; what it means; the type known before it)
+unfoldable pub typed : Bool → Meaning → Option ℕ → Option ℕ
+typed false m before = before
+typed true (refuses n) before = before
+typed true (names r) before = before
+typed true (enters k r) before = some k
+
+unfoldable pub typeOf : List Frame → ℕ → Option ℕ
+typeOf [] a = none
+typeOf (f ∷ S) a = typed (eqb (address f) a) (meaning (typeOf S (address f)) f) (typeOf S a)
+
+-- What is known of a place.
+pub data Known : Type 0 where
+  unknown : Known
+  told : ℕ → Known
+
+-- what is known of a place after it is spoken of
+unfoldable pub after : Saying → Known → Known
+after silent before = before
+after asks before = unknown
+after (tells v) before = told v
+
+-- What the standing frames tell of the place p of the module at a: the latest of them at a that names the place decides, and an entry hides all before it.
+unfoldable pub gave : Bool → Meaning → ℕ → Known → Known
+gave false m p before = before
+gave true (refuses n) p before = before
+gave true (names r) p before = after (said r p) before
+gave true (enters k r) p before = after (said r p) unknown
+
+unfoldable pub latest : List Frame → ℕ → ℕ → Known
+latest [] a p = unknown
+latest (f ∷ S) a p = gave (eqb (address f) a) (meaning (typeOf S (address f)) f) p (latest S a p)
+
+-- How many modules are listed: the standing frames that entered an address with no module.
+unfoldable pub more : Option ℕ → Meaning → ℕ → ℕ
+more t (refuses c) n = n
+more t (names r) n = n
+more none (enters k r) n = suc n
+more (some t) (enters k r) n = n
+
+unfoldable pub listed : List Frame → ℕ
+listed [] = 0
+listed (f ∷ S) = more (typeOf S (address f)) (meaning (typeOf S (address f)) f) (listed S)
+
+-- How a frame is judged. An exchange is accepted too; it is told apart because it empties the way back.
+pub data Judgement : Type 0 where
+  refused : ℕ → Judgement
+  accepted : Judgement
+  exchanged : Judgement
+
+unfoldable pub judged : Option ℕ → ℕ → Meaning → Judgement
+judged t n (refuses c) = refused c
+judged t n (names r) = accepted
+judged none n (enters k r) = cond (ltb n room) accepted (refused noRoom)
+judged (some t) n (enters k r) = exchanged
+
+unfoldable pub judgement : List Frame → Frame → Judgement
+judgement S f = judged (typeOf S (address f)) (listed S) (meaning (typeOf S (address f)) f)
+
+-- what is answered outside
+unfoldable pub outcomeOf : Judgement → Outcome
+outcomeOf (refused n) = outcome.Refused n
+outcomeOf accepted = outcome.Done
+outcomeOf exchanged = outcome.Done
+
+pub data Event : Type 0 where
+  hear : Frame → Event
+  back : Event
+
+-- An accepted frame stands; a granted step back strikes off the last.
+unfoldable pub stands : Judgement → Frame → List Frame → List Frame
+stands (refused n) f S = S
+stands accepted f S = f ∷ S
+stands exchanged f S = f ∷ S
+
+unfoldable pub butLatest : List Frame → List Frame
+butLatest [] = []
+butLatest (f ∷ S) = S
+
+unfoldable pub struck : ℕ → List Frame → List Frame
+struck zero S = S
+struck (suc k) S = butLatest S
+
+-- An accepted frame adds 1 up to the depth; an exchange sets the count to 0.
+unfoldable pub counted : Judgement → ℕ → ℕ
+counted (refused n) k = k
+counted accepted k = min depth (suc k)
+counted exchanged k = 0
+
+unfoldable mutual
+  pub standing : List Event → List Frame
+  standing [] = []
+  standing (hear f ∷ h) = stands (judgement (standing h) f) f (standing h)
+  standing (back ∷ h) = struck (kept h) (standing h)
+
+  pub kept : List Event → ℕ
+  kept [] = 0
+  kept (hear f ∷ h) = counted (judgement (standing h) f) (kept h)
+  kept (back ∷ h) = pred (kept h)
+
+-- The answer to the next event: a step back is granted exactly while the count kept is above zero.
+unfoldable pub granted : ℕ → Judgement
+granted zero = refused nothingKept
+granted (suc k) = accepted
+
+unfoldable pub answered : List Event → Event → Judgement
+answered h (hear f) = judgement (standing h) f
+answered h back = granted (kept h)

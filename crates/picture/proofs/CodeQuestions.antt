@@ -1,0 +1,77 @@
+-- Laws of the definitions of specs/Questions.antt that the code's proofs cite.
+-- Assumes nothing.
+use Prim.Native.Nat.{ℕ, _+_, _≤_}
+use native.Mathlib.Omega.{arith}
+use native.Mathlib.Numerals.{add-one}
+use mathlib.Core.Path.{_≡_, refl}
+use mathlib.Core.Bool.{Bool, true, false, cond}
+use mathlib.Core.List.{List}
+use lib.Dec.{eqb, ltb}
+use lib.ListN.{getD, set}
+use Rattle.laws.specs.Refusals.{typeNotKnown, tooShort}
+use Rattle.frame.specs.Rows.{vmb8ir, vmb1bl}
+use Rattle.picture.specs.declared.Answer.{Answer}
+use Rattle.picture.specs.declared.Answer.the-variants.{Refused}
+use Rattle.picture.specs.Limits.{room}
+use Rattle.picture.specs.Places.{Asked, placeAsked, extent, extentOf, hasName}
+use Rattle.picture.specs.Bytes.{short, kindIn}
+use Rattle.picture.specs.Questions.{slotAsked, heardAt, placeIn, numberIn, numberAnswer, filledTo, sumTo}
+use Rattle.picture.proofs.CodePlaces.{within-high}
+
+-- a number's answer, from the slot, the type and the place that were found
+pub number-by :
+    (b : List ℕ) (a : ℕ) (q : Asked) {s k p : ℕ} {r : Answer} →
+    s ≡ slotAsked b a →
+    k ≡ kindIn b s →
+    p ≡ placeAsked k q →
+    r ≡ cond (short b) (Refused tooShort) (cond (ltb s room) (placeIn b s p) (Refused typeNotKnown)) →
+    r ≡ numberAnswer b a q
+unfolding numberAnswer numberIn
+number-by b a q d e f g = rw (← d, ← e, ← f) g
+
+pub heard-small : (b : List ℕ) (o : ℕ) → heardAt b o ≤ 1
+unfolding heardAt
+heard-small b o = go (eqb (getD b (o + 1) 0) 0)
+  where
+    go : (t : Bool) → cond t 0 1 ≤ 1
+    go true = omega arith
+    go false = omega arith
+
+-- no type has more names, or more cells, than fit
+abbrev Few : ℕ → Type 0
+Few kind = (extentOf kind .names ≤ 8) × (extentOf kind .cells ≤ 256)
+
+few : (kind : ℕ) → Few kind
+unfolding extentOf
+few kind = go (eqb kind vmb8ir) (eqb kind vmb1bl)
+  where
+    go : (s t : Bool) → (cond s (extent 256 8 8 0) (cond t (extent 128 3 0 1) (extent 0 0 0 0)) .names ≤ 8)
+        × (cond s (extent 256 8 8 0) (cond t (extent 128 3 0 1) (extent 0 0 0 0)) .cells ≤ 256)
+    go true t = (omega arith, omega arith)
+    go false true = (omega arith, omega arith)
+    go false false = (omega arith, omega arith)
+
+pub few-cells : (kind : ℕ) → extentOf kind .cells ≤ 256
+few-cells kind = few kind .1
+
+pub few-names : (kind name : ℕ) → hasName kind name ≡ true → name ≤ 8
+unfolding hasName
+few-names kind name e = omega (arith, within-high name (extentOf kind .names) e, few kind .0)
+
+-- ---- loops that fill, and a loop that adds
+module _ (f : ℕ → ℕ) where
+  pub filled-none : (out : List ℕ) → out ≡ filledTo f out 0
+  unfolding filledTo
+  filled-none out = refl
+
+  pub filled-more : (out : List ℕ) (n : ℕ) {x y : List ℕ} {v : ℕ} → x ≡ filledTo f out n → v ≡ f n → y ≡ set x n v → y ≡ filledTo f out (n + 1)
+  unfolding filledTo
+  filled-more out n p e q = rw (add-one, ← p, ← e) q
+
+  pub sum-none : 0 ≡ sumTo f 0
+  unfolding sumTo
+  sum-none = refl
+
+  pub sum-more : (n : ℕ) {s v : ℕ} → s ≡ sumTo f n → v ≡ f n → s + v ≡ sumTo f (n + 1)
+  unfolding sumTo
+  sum-more n p e = rw (add-one, ← p, ← e)

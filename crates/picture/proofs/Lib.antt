@@ -1,0 +1,3 @@
+pub mod CodePlaces
+pub mod CodeBytes
+pub mod CodeQuestions

@@ -1,0 +1,12 @@
+-- `picture::places::led_asked` meets its contract. Assumes nothing.
+use borrow.Author.Needs.{needs}
+use Rattle.picture.specs.Places.{placeAsked}
+use Rattle.picture.proofs.places.led_asked.Statement.{statement}
+use Rattle.picture.proofs.places.led_asked.Tie as tie
+
+returns : tie.Need-returns
+unfolding placeAsked
+returns c = rw (← c .before .extent-of .ensures) (c .numbered .ensures)
+
+pub led-asked-spec : {M : Type 1} → statement M
+led-asked-spec = tie.close (tie.spec (λ c κs. search needs) (λ c κs. search needs) returns)

@@ -1,0 +1,15 @@
+-- `picture::questions::build_year` meets its contract. Assumes nothing.
+use mathlib.Core.Path.{refl}
+use borrow.Author.Needs.{needs}
+use Rattle.picture.specs.Places.{placeAsked, year}
+use Rattle.picture.proofs.CodeQuestions.{number-by}
+use Rattle.picture.proofs.questions.build_year.Statement.{statement}
+use Rattle.picture.proofs.questions.build_year.Tie as tie
+
+returns : tie.Need-returns
+unfolding placeAsked
+returns c = number-by _ _ year (c .before .slot-asked .ensures) refl refl (c .number-of .ensures)
+
+pub build-year-spec : {M : Type 1} → statement M
+build-year-spec =
+    tie.close (tie.spec (λ c κs. search needs) (λ c. search needs) (λ c κs. search needs) returns)

@@ -1,0 +1,19 @@
+-- The numbers that bound a picture. Assumes nothing.
+use Prim.Native.Nat.{ℕ}
+use Rattle.frame.specs.Identifiers.{addressOf}
+
+-- the most modules
+abbrev pub room : ℕ
+room = 16
+
+-- the most steps back that are kept
+abbrev pub depth : ℕ
+depth = 16
+
+-- the number of addresses
+abbrev pub addresses : ℕ
+addresses = 256
+
+-- the address that an identifier holds
+abbrev pub busAddress : ℕ → ℕ
+busAddress identifier = addressOf identifier .0

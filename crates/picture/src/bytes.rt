@@ -1,0 +1,48 @@
+// Bytes of a buffer, read and stored. Past its end stands 0, and nothing is stored.
+ghost use mathlib.Core.Path.{_≡_};
+ghost use Prim.Native.Nat.{min};
+ghost use lib.ListN.{getD, set};
+ghost use Rattle.picture.specs.Bytes.{pair};
+
+pub fn byte_at(s: &[u8], i: usize) -> u8
+    ensures { λ r. ⌜ r ≡ getD (now (s .entry)) i 0 ⌝ }
+{
+    if i < s.len() { s[i] } else { 0 }
+}
+
+pub fn put_at(s: &mut [u8], i: usize, v: u8)
+    ensures { λ _. ⌜ now (s .exit) ≡ set (now (s .entry)) i v ⌝ }
+{
+    if i < s.len() {
+        s[i] = v;
+    }
+}
+
+// The same in a row of 16-bit numbers.
+pub fn put_number(s: &mut [u16], i: usize, v: u16)
+    ensures { λ _. ⌜ now (s .exit) ≡ set (now (s .entry)) i v ⌝ }
+{
+    if i < s.len() {
+        s[i] = v;
+    }
+}
+
+// The two bytes of a place: its value, and whether it is told.
+pub fn put_pair(s: &mut [u8], at: usize, value: u8, told: u8)
+    ensures { λ _. ⌜ now (s .exit) ≡ pair (now (s .entry)) at value told ⌝ }
+{
+    let n = s.len();
+    if at < n {
+        s[at] = value;
+        if at + 1 < n {
+            s[at + 1] = told;
+        }
+    }
+}
+
+// What a byte that steers is cut down to.
+pub fn at_most(most: u8, n: u8) -> u8
+    ensures { λ r. ⌜ r ≡ min most n ⌝ }
+{
+    if n < most { n } else { most }
+}

@@ -1,0 +1,165 @@
+// The ring of log entries, from which a step back is undone: what was done, and the bytes of the run as they were.
+use crate::Run;
+use crate::bytes::at_most;
+use crate::bytes::byte_at;
+use crate::bytes::put_at;
+use crate::head::kept_of;
+use crate::head::next_of;
+use crate::layout::DEPTH;
+use crate::layout::KEPT_AT;
+use crate::layout::NEXT_AT;
+use crate::layout::ROOM;
+use crate::layout::entry_at;
+use crate::layout::old_at;
+use crate::layout::place_at;
+use crate::places::PLACES;
+use crate::writing::RUN_LENGTH;
+use laws::both;
+ghost use mathlib.Core.Path.{_≡_};
+ghost use Prim.Native.Nat.{suc, min, _+_, _*_, _^_, _<_};
+ghost use Rattle.picture.specs.Layout.{oldAt, placeAt};
+ghost use Rattle.picture.specs.Limits.{depth};
+ghost use Rattle.picture.specs.Bytes.{
+  stored,
+  copied,
+  opened,
+  stepped,
+  following,
+  saved,
+  undoneSlot,
+  undoneStart,
+  undoneCount,
+  fits,
+  putBack,
+};
+
+// What was done: nothing, an entry, or a run of places written.
+pub const DID_NOTHING: u8 = 0;
+
+pub const DID_ENTER: u8 = 1;
+
+const DID_WRITE: u8 = 2;
+
+fn store_row(picture: &mut [u8], at: usize, row: [u8; 8])
+    requires { ⌜ at < 2 ^ 40 ⌝ }
+    ensures { λ _. ⌜ now (picture .exit) ≡ stored (now (picture .entry)) at row 8 ⌝ }
+{
+    let mut i: usize = 0;
+    while i < 8 {
+        put_at(picture, at + i, row[i]);
+        i += 1;
+    }
+}
+
+// The next entry, begun.
+pub fn open_entry(picture: &mut [u8], what: u8, slot: u8, start: u32, count: u8)
+    ensures { λ _. ⌜ now (picture .exit) ≡ opened (now (picture .entry)) what slot start count ⌝ }
+{
+    let at = entry_at(next_of(picture));
+    let low = (start % 256) as u8;
+    let high = (start / 256 % 256) as u8;
+    store_row(picture, at, [what, slot, low, high, count, 0, 0, 0]);
+}
+
+// One step more, up to the most that are kept.
+fn kept_after(kept: u8) -> u8
+    ensures { λ r. ⌜ r ≡ min depth (suc kept) ⌝ }
+{
+    if kept < DEPTH { kept + 1 } else { DEPTH }
+}
+
+fn entry_after(entry: u8) -> u8
+    ensures { λ r. ⌜ r ≡ following entry ⌝ }
+{
+    (entry % DEPTH + 1) % DEPTH
+}
+
+// One step more is kept, and the ring moves on.
+pub fn step_on(picture: &mut [u8])
+    ensures { λ _. ⌜ now (picture .exit) ≡ stepped (now (picture .entry)) ⌝ }
+{
+    let kept = kept_after(kept_of(picture));
+    let next = entry_after(next_of(picture));
+    put_at(picture, KEPT_AT, kept);
+    put_at(picture, NEXT_AT, next);
+}
+
+// Bytes copied, one after the other.
+fn copy(picture: &mut [u8], to: usize, from: usize, n: usize)
+    requires { ⌜ (to < 2 ^ 40) × (from < 2 ^ 40) × (n < 2 ^ 40) ⌝ }
+    ensures { λ _. ⌜ now (picture .exit) ≡ copied (now (picture .entry)) to from n ⌝ }
+{
+    let mut i: usize = 0;
+    while i < n {
+        let b = byte_at(picture, from + i);
+        put_at(picture, to + i, b);
+        i += 1;
+    }
+}
+
+// Places of a record, kept in an entry.
+fn keep_places(picture: &mut [u8], entry: u8, slot: u8, start: u32, count: u8)
+    ensures { λ _. ⌜ now (picture .exit) ≡ copied (now (picture .entry)) (oldAt entry) (placeAt slot start) (2 * count) ⌝ }
+{
+    let to = old_at(entry);
+    let from = place_at(slot, start);
+    copy(picture, to, from, 2 * (count as usize));
+}
+
+// The run's places as they are, into the log.
+pub fn save(picture: &mut [u8], slot: u8, run: Run)
+    ensures { λ _. ⌜ now (picture .exit) ≡ saved (now (picture .entry)) slot run ⌝ }
+{
+    let entry = next_of(picture);
+    let start = run.start;
+    let count = at_most(RUN_LENGTH, run.count);
+    open_entry(picture, DID_WRITE, slot, start, count);
+    keep_places(picture, entry, slot, start, count);
+}
+
+// Which places an entry keeps.
+struct Kept {
+    slot: u8,
+    start: u32,
+    count: u8,
+}
+
+fn kept_in(picture: &[u8], entry: u8) -> Kept
+    ensures { λ r. ⌜ (r .slot ≡ undoneSlot (now (picture .entry)) entry) × (r .start ≡ undoneStart (now (picture .entry)) entry) × (r .count ≡ undoneCount (now (picture .entry)) entry) ⌝ }
+{
+    let at = entry_at(entry);
+    let slot = byte_at(picture, at + 1);
+    let low = byte_at(picture, at + 2) as u32;
+    let high = byte_at(picture, at + 3) as u32;
+    let count = at_most(RUN_LENGTH, byte_at(picture, at + 4));
+    Kept {
+        slot,
+        start: low + 256 * high,
+        count,
+    }
+}
+
+// Whether a run of places lies in a record.
+fn run_fits(slot: u8, start: u32, count: u8) -> bool
+    ensures { λ r. ⌜ r ≡ fits slot start count ⌝ }
+{
+    both(slot < ROOM, start as usize + count as usize <= PLACES)
+}
+
+fn return_places(picture: &mut [u8], entry: u8, slot: u8, start: u32, count: u8)
+    ensures { λ _. ⌜ now (picture .exit) ≡ copied (now (picture .entry)) (placeAt slot start) (oldAt entry) (2 * count) ⌝ }
+{
+    let to = place_at(slot, start);
+    let from = old_at(entry);
+    copy(picture, to, from, 2 * (count as usize));
+}
+
+// What an entry keeps, back into its record; nothing, where that is no run of a record.
+pub fn put_back(picture: &mut [u8], entry: u8)
+    ensures { λ _. ⌜ now (picture .exit) ≡ putBack (now (picture .entry)) entry ⌝ }
+{
+    let kept = kept_in(picture, entry);
+    if run_fits(kept.slot, kept.start, kept.count) {
+        return_places(picture, entry, kept.slot, kept.start, kept.count);
+    }
+}

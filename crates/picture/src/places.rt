@@ -1,0 +1,148 @@
+// The places of a module, one map for every type: build year, build week, LEDs, blinds, characters of names, cells.
+use crate::Extent;
+use frame::Location;
+use frame::VMB1BL;
+use frame::VMB8IR;
+use laws::both;
+use laws::wide32;
+ghost use mathlib.Core.Path.{_≡_};
+ghost use mathlib.Core.Bool.{cond};
+ghost use Prim.Native.Nat.{_+_, _-_, _<_};
+ghost use Rattle.picture.specs.Places.{
+  extentOf,
+  placeAsked,
+  hasName,
+  within,
+  nowhere,
+  characterPlace,
+  cellPlace,
+  cell,
+  led,
+  blind,
+};
+
+// How many places there are, and the number that stands for no place.
+pub const PLACES: usize = 512;
+
+const NOWHERE: usize = PLACES;
+
+// The first place of each kind.
+pub const YEAR: u32 = 0;
+
+pub const WEEK: u32 = 1;
+
+pub const LEDS: u32 = 2;
+
+pub const BLINDS: u32 = 10;
+
+const NAMES: u32 = 16;
+
+const CELLS: u32 = 256;
+
+const NAME_LENGTH: u32 = 16;
+
+// How much each type has.
+pub fn extent_for(kind: u32) -> Extent
+    ensures { λ r. ⌜ r ≡ extentOf kind ⌝ }
+{
+    if kind == VMB8IR {
+        return Extent {
+            cells: 256,
+            names: 8,
+            leds: 8,
+            blinds: 0,
+        };
+    }
+    if kind == VMB1BL {
+        return Extent {
+            cells: 128,
+            names: 3,
+            leds: 0,
+            blinds: 1,
+        };
+    }
+    Extent {
+        cells: 0,
+        names: 0,
+        leds: 0,
+        blinds: 0,
+    }
+}
+
+// The same, for the type byte of a record.
+pub fn extent_of(kind: u8) -> Extent
+    ensures { λ r. ⌜ r ≡ extentOf kind ⌝ }
+{
+    extent_for(wide32(kind))
+}
+
+// Whether n counts from 1 to most.
+fn within(n: u32, most: u32) -> bool
+    ensures { λ r. ⌜ r ≡ within n most ⌝ }
+{
+    both(1 <= n, n <= most)
+}
+
+pub fn has_name(kind: u8, name: u32) -> bool
+    ensures { λ r. ⌜ r ≡ hasName kind name ⌝ }
+{
+    let e = extent_of(kind);
+    within(name, e.names)
+}
+
+// What is counted from 1, counted from 0.
+fn from_zero(n: u8) -> u32
+    ensures { λ r. ⌜ r ≡ n - 1 ⌝ }
+{
+    if n < 1 { 0 } else { wide32(n - 1) }
+}
+
+// Where character i of a name lies; names and characters count from 1.
+pub fn character_place(kind: u8, name: u8, i: u8) -> u32
+    ensures { λ r. ⌜ r ≡ characterPlace kind name i ⌝ }
+{
+    NAMES + NAME_LENGTH * from_zero(name) + from_zero(i)
+}
+
+pub fn cell_place(kind: u8, location: Location) -> u32
+    ensures { λ r. ⌜ r ≡ cellPlace kind (location .0) ⌝ }
+{
+    CELLS + location.0 as u32
+}
+
+// The place that is asked for, or nowhere.
+pub fn cell_asked(kind: u8, location: u32) -> usize
+    ensures { λ r. ⌜ r ≡ placeAsked kind (cell location) ⌝ }
+{
+    let e = extent_of(kind);
+    if location < e.cells {
+        CELLS as usize + location as usize
+    } else {
+        NOWHERE
+    }
+}
+
+// Of places that are counted from 1.
+fn numbered(first: u32, n: u32, most: u32) -> usize
+    ensures { λ r. ⌜ r ≡ cond (within n most) (first + (n - 1)) nowhere ⌝ }
+{
+    if within(n, most) {
+        first as usize + (n as usize - 1)
+    } else {
+        NOWHERE
+    }
+}
+
+pub fn led_asked(kind: u8, number: u32) -> usize
+    ensures { λ r. ⌜ r ≡ placeAsked kind (led number) ⌝ }
+{
+    let e = extent_of(kind);
+    numbered(LEDS, number, e.leds)
+}
+
+pub fn blind_asked(kind: u8, number: u32) -> usize
+    ensures { λ r. ⌜ r ≡ placeAsked kind (blind number) ⌝ }
+{
+    let e = extent_of(kind);
+    numbered(BLINDS, number, e.blinds)
+}

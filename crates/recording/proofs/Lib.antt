@@ -1,0 +1,6 @@
+pub mod Reading
+pub mod Writing
+pub mod Entries
+pub mod Windows
+pub mod RoundTrip
+pub mod Examples

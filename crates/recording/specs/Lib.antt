@@ -1,0 +1,7 @@
+pub mod Limits
+pub mod Number
+pub mod Record
+pub mod Write
+pub mod Window
+pub mod Examples
+pub mod Statements

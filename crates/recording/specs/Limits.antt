@@ -1,0 +1,38 @@
+-- The numbers that the paper fixes for recordings.
+use Prim.Native.Nat.{ℕ, _+_}
+
+-- a gap in ms, up to
+abbrev pub mostGap : ℕ
+mostGap = 268435455
+
+-- in so many groups
+abbrev pub gapGroups : ℕ
+gapGroups = 4
+
+-- the word, 2 × identifier + remote flag, up to
+abbrev pub mostWord : ℕ
+mostWord = 4095
+
+-- in so many groups
+abbrev pub wordGroups : ℕ
+wordGroups = 2
+
+-- an identifier up to
+abbrev pub mostIdentifier : ℕ
+mostIdentifier = 2047
+
+-- a remote flag up to
+abbrev pub mostRemote : ℕ
+mostRemote = 1
+
+-- a count of data bytes up to
+abbrev pub mostCount : ℕ
+mostCount = 8
+
+-- in so many groups
+abbrev pub countGroups : ℕ
+countGroups = 1
+
+-- so a record has at most so many bytes
+abbrev pub longest : ℕ
+longest = gapGroups + wordGroups + countGroups + mostCount

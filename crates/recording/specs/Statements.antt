@@ -1,0 +1,76 @@
+-- What holds of recordings; proofs/ proves each statement.
+use Prim.Native.Nat.{ℕ, _+_, _-_, _≤_, _<_}
+use mathlib.Core.Path.{_≡_}
+use mathlib.Core.List.{List, _++_, map}
+use mathlib.Core.Bool.{true, false}
+use mathlib.Core.Logic.{_⊎_}
+use lib.ListN.{length, take, drop, getD}
+use Rattle.recording.specs.declared.records.Entry.the-variants.{Record, Broken}
+use Rattle.recording.specs.declared.writes.Put.the-variants.{Wrote}
+use Rattle.laws.specs.Refusals.{cutOff, badNumber}
+use Rattle.recording.specs.Limits.{longest}
+use Rattle.recording.specs.Record.{readRecord}
+use Rattle.recording.specs.Write.{inRange, recordBytes, putAnswer, putBytes}
+use Rattle.recording.specs.Window.{settled, further}
+use Rattle.recording.specs.Examples.{examples, Row}
+
+-- every element is a byte, as every element of a `&[u8]` is
+abbrev pub AllBytes : List ℕ → Type 0
+AllBytes s = (i : ℕ) → getD s i 0 < 256
+
+-- a record's numbers are in range, and it lies between `at` and the end of the n bytes
+pub record Whole (n at gap identifier remote start len next : ℕ) : Type 0 where
+  pub in-range : inRange gap identifier remote len ≡ true
+  pub starts : at < start
+  pub ends : next ≡ start + len
+  pub inside : next ≤ n
+
+-- every record that is read is whole
+abbrev pub RecordsAreWhole : Type 0
+RecordsAreWhole =
+    (s : List ℕ) (at gap identifier remote start len next : ℕ) → readRecord s at ≡ Record gap identifier remote start len next → Whole (length s) at gap identifier remote start len next
+
+-- a fault has the offset of its byte for 16, and the input's length for 15
+abbrev pub FaultsArePlaced : Type 0
+FaultsArePlaced =
+    (s : List ℕ) (at refusal offset : ℕ) → readRecord s at ≡ Broken refusal offset
+    → ((refusal ≡ cutOff) × (offset ≡ length s)) ⊎ ((refusal ≡ badNumber) × (at ≤ offset) × (offset < length s))
+
+-- at `at` of the input s stands, up to `next`, the record of these numbers and data
+abbrev pub StandsAt : List ℕ → ℕ → ℕ → ℕ → ℕ → List ℕ → ℕ → Type 0
+StandsAt s at gap identifier remote ds next =
+    (readRecord s at ≡ Record gap identifier remote (next - length ds) (length ds) next) × (take (length ds) (drop (next - length ds) s) ≡ ds)
+
+-- a record's bytes read back as the record, whatever stands before and after
+abbrev pub BytesReadBack : Type 0
+BytesReadBack =
+    (before after : List ℕ) (gap identifier remote : ℕ) (ds : List ℕ) → inRange gap identifier remote (length ds) ≡ true
+    → StandsAt (before ++ (recordBytes gap identifier remote ds ++ after)) (length before) gap identifier remote ds (length before + length (recordBytes gap identifier remote ds))
+
+-- a record that the writer put at a place is read at that place
+abbrev pub WrittenIsRead : Type 0
+WrittenIsRead =
+    (b : List ℕ) (at gap identifier remote : ℕ) (ds : List ℕ) (n : ℕ) → putAnswer b at gap identifier remote ds ≡ Wrote n
+    → StandsAt (putBytes b at gap identifier remote ds) at gap identifier remote ds (at + n)
+
+-- a record that is read, and written again where it was, is the same bytes
+abbrev pub ReadIsWritten : Type 0
+ReadIsWritten =
+    (s : List ℕ) → AllBytes s → (at gap identifier remote start len next : ℕ) → readRecord s at ≡ Record gap identifier remote start len next
+    → (putAnswer s at gap identifier remote (take len (drop start s)) ≡ Wrote (next - at)) × (putBytes s at gap identifier remote (take len (drop start s)) ≡ s)
+
+-- what is settled in a first part s of the input stands in the whole of it
+abbrev pub WindowSettles : Type 0
+WindowSettles = (s t : List ℕ) (at : ℕ) → settled (readRecord s at) ≡ true → readRecord (s ++ t) at ≡ readRecord s at
+
+-- what is not settled, because the part ends, is shorter than the longest record
+abbrev pub LeftoverIsShort : Type 0
+LeftoverIsShort = (s : List ℕ) (at : ℕ) → settled (readRecord s at) ≡ false → length s < at + longest
+
+-- what is found in a part that begins further on is found there in the whole
+abbrev pub WindowMoves : Type 0
+WindowMoves = (p s : List ℕ) (at : ℕ) → readRecord (p ++ s) (length p + at) ≡ further (length p) (readRecord s at)
+
+-- every example is right
+abbrev pub ExamplesHold : Type 0
+ExamplesHold = map (λ (r : Row). r .given) examples ≡ map (λ (r : Row). r .right) examples

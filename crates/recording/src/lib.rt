@@ -1,0 +1,10 @@
+// Recordings: seven-bit numbers, and records with their reader and their writer.
+mod limits;
+mod numbers;
+mod records;
+mod writes;
+
+pub use records::Entry;
+pub use records::read_record;
+pub use writes::Put;
+pub use writes::put_record;

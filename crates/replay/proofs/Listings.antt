@@ -1,0 +1,93 @@
+-- Laws of the listing.
+--     whole-small, told-small    a name and a cell count as one at most
+--     sum-none, sum-more, modules-none, modules-more    the start and a turn of a loop that counts, and of the one over the addresses
+--     listing-fits               the longest listing
+-- Assumes nothing.
+use mathlib.Core.Path.{_≡_, refl, ap, _∙_}
+use mathlib.Core.List.{List, [], _++_}
+use mathlib.Core.Bool.{cond}
+use Prim.Native.Nat.{ℕ, zero, suc, _+_, _*_, _%_, _≤_}
+use native.Mathlib.Numerals.{add-one}
+use native.Mathlib.Omega.{arith}
+use lib.Dec.{ltb, eqb}
+use lib.ListN.{length, replicate, length-append}
+use Rattle.laws.proofs.Choices.{cond-elim}
+use Rattle.picture.specs.declared.Answer.{Answer}
+use Rattle.picture.specs.declared.Answer.the-variants.{Value, Refused}
+use Rattle.picture.specs.Places.{cell, nameLength}
+use Rattle.picture.specs.Questions.{numberAnswer, typeAnswer, nameWhole, sumTo}
+use Rattle.picture.specs.Limits.{addresses}
+use Rattle.replay.specs.Replay.{one, isDone}
+use Rattle.replay.specs.Sheets.{wholeName, toldIf, toldCell, notHeard, wholeNames, toldCells}
+use Rattle.replay.specs.Lines.{header, brokenLine, countLine}
+use Rattle.replay.specs.Listing.{sheetText, typedText, moduleText, modulesText, faultText, listingText}
+use Rattle.replay.specs.TextStatements.{lineRoom, ListingFits}
+use Rattle.replay.proofs.Texts.{lines-are-short}
+use Rattle.replay.proofs.Runs.{one-or-none}
+
+pub whole-small : (b : List ℕ) (address name : ℕ) → wholeName b address name ≤ 1
+unfolding wholeName
+whole-small b address name = one-or-none (isDone (nameWhole b address name (replicate nameLength 0) .outcome))
+
+told-if-small : (r : Answer) → toldIf r ≤ 1
+told-if-small (Value v) = cond-elim (λ (n : ℕ). n ≤ 1) (ltb v notHeard) 1 0 (λ _. omega arith) (λ _. omega arith)
+told-if-small (Refused n) = omega arith
+
+pub told-small : (b : List ℕ) (address location : ℕ) → toldCell b address location ≤ 1
+unfolding toldCell
+told-small b address location = told-if-small (numberAnswer b address (cell location))
+
+pub sum-more : (f : ℕ → ℕ) (i : ℕ) → sumTo f (i + 1) ≡ sumTo f i + f i
+unfolding sumTo
+sum-more f i = ap (sumTo f) (add-one i)
+
+pub sum-none : (f : ℕ → ℕ) → sumTo f 0 ≡ 0
+unfolding sumTo
+sum-none f = refl
+
+pub modules-more : (b : List ℕ) (n : ℕ) → modulesText b (n + 1) ≡ modulesText b n ++ moduleText b n
+unfolding modulesText
+modules-more b n = ap (modulesText b) (add-one n)
+
+pub modules-none : (b : List ℕ) → modulesText b 0 ≡ []
+unfolding modulesText
+modules-none b = refl
+
+-- a line is short, or nothing
+module-short : (b : List ℕ) (address : ℕ) → length (moduleText b address) ≤ lineRoom
+unfolding moduleText sheetText
+module-short b address = go (typeAnswer b address)
+  where
+    go : (r : Answer) → length (typedText b address r) ≤ lineRoom
+    go (Value kind) = lines-are-short .1 (address % 256) (kind % 256) (wholeNames b address) (toldCells b address)
+    go (Refused n) = omega arith
+
+modules-short : (b : List ℕ) (n : ℕ) → length (modulesText b n) ≤ lineRoom * n
+unfolding modulesText
+modules-short b zero = omega arith
+modules-short b (suc n) =
+    let h : length (modulesText b n) ≤ lineRoom * n = modules-short b n in
+    omega (arith, module-short b n, length-append (modulesText b n) (moduleText b n))
+
+fault-short : (refusal offset : ℕ) → length (faultText refusal offset) ≤ lineRoom
+unfolding faultText
+fault-short refusal offset =
+    cond-elim (λ (l : List ℕ). length l ≤ lineRoom) (eqb refusal 0) [] (brokenLine offset refusal) (λ _. omega arith) (λ _. lines-are-short .2 offset refusal)
+
+pub listing-fits : ListingFits
+unfolding listingText
+listing-fits b stream =
+    let h : List ℕ = header in
+    let m : List ℕ = modulesText b addresses in
+    let f : List ℕ = faultText (stream .refusal) (stream .offset) in
+    let c : List ℕ = countLine (stream .heard) (stream .refused) in
+    omega (
+      arith,
+      lines-are-short .0,
+      modules-short b addresses,
+      fault-short (stream .refusal) (stream .offset),
+      lines-are-short .3 (stream .heard) (stream .refused),
+      length-append (h ++ m ++ f) c,
+      length-append (h ++ m) f,
+      length-append h m,
+    )

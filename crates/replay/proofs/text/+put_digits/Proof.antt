@@ -1,0 +1,46 @@
+-- `replay::text::put_digits` meets its contract; the measure is the number of digits still allowed. Assumes nothing.
+use Prim.Native.Nat.{ℕ, _<_}
+use native.Mathlib.Omega.{arith}
+use borrow.Author.Needs.{needs}
+use borrow.Fn.Kinds.{In}
+use borrow.Fn.PlainCycle.{Measures, is, falls, and}
+use Rattle.replay.proofs.Texts.{followed, nothing, digits-none, digits-last, digits-more}
+use Rattle.replay.specs.Text.{decimal}
+use Rattle.replay.proofs.text.put_digits.Reads as put-digits
+use Rattle.replay.proofs.text.put_digits.Kinds as put-digits-kinds
+use Rattle.replay.proofs.text.+put_digits.Lts-put_digits as lts
+use Rattle.replay.proofs.text.clip.Reads as clip-reads
+use Rattle.replay.proofs.text.put_byte.Reads as put-byte-reads
+use Rattle.replay.proofs.text.+put_digits.{statement}
+use Rattle.replay.proofs.text.+put_digits.Tie.{close}
+
+abbrev μ : Measures 1 put-digits-kinds.ps ℕ
+μ κs a = a .1 .1 .0
+
+abbrev here : ℕ → In 1 put-digits-kinds.ps
+here t = and 1 put-digits-kinds.ps (is 1 put-digits-kinds.ps μ t) put-digits.Pre
+
+abbrev below : ℕ → In 1 put-digits-kinds.ps
+below t = and 1 put-digits-kinds.ps (falls 1 put-digits-kinds.ps _<_ μ t) put-digits.Pre
+
+pub +put-digits-spec : {M : Type 1} → statement M
++put-digits-spec = close μ λ t. lts.spec
+    (clip-reads.Asked, clip-reads.Learnt, put-byte-reads.Asked, put-byte-reads.Learnt, below t, put-digits.Post)
+    (here t)
+    put-digits.Post
+    (λ c κs. search needs)
+    (λ c. let a = c .before .before .before .args in
+    nothing (a .out .now) (a .at) (c .clip .result) (decimal (a .left) (a .n)) (digits-none (a .left) (a .n) (omega arith)) (c .clip .ensures))
+    (λ c. search needs)
+    (λ c. search needs)
+    (λ c κs. search needs)
+    (λ c. search needs)
+    (λ c. let a = c .before .before .before .before .before .before .before .args in rw (digits-last (a .left) (a .n) (λ e. omega arith) (omega arith)) (c .before .before .put-byte .ensures))
+    (λ c. search needs)
+    (λ c κs. search needs)
+    (λ c. search needs)
+    (λ c. search needs)
+    (λ c κs. search needs)
+    (λ c. search needs)
+    (λ c. let a = c .before .before .before .before .before .before .before .before .before .before .before .args in
+    rw (digits-more (a .left) (a .n) (λ e. omega arith) (omega arith)) (followed (c .before .before .before .before .before .before .put-digits .ensures) (c .before .before .put-byte2 .ensures)))

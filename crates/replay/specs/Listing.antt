@@ -1,0 +1,39 @@
+-- The listing of a picture's bytes, with the counts and the fault of the recording that it heard.
+use Prim.Native.Nat.{ℕ, zero, suc, _%_}
+use mathlib.Core.List.{List, [], _++_}
+use mathlib.Core.Bool.{cond}
+use lib.Dec.{eqb}
+use Rattle.picture.specs.declared.Answer.{Answer}
+use Rattle.picture.specs.declared.Answer.the-variants.{Value, Refused}
+use Rattle.picture.specs.Questions.{typeAnswer}
+use Rattle.picture.specs.Limits.{addresses}
+use Rattle.replay.specs.declared.window.Stream.{Stream}
+use Rattle.replay.specs.Lines.{header, moduleLine, brokenLine, countLine}
+use Rattle.replay.specs.Sheets.{wholeNames, toldCells}
+
+-- the line of a listed module of a type
+unfoldable pub sheetText : List ℕ → ℕ → ℕ → List ℕ
+sheetText b address kind = moduleLine (address % 256) (kind % 256) (wholeNames b address) (toldCells b address)
+
+-- by the answer to the question on its type: the module's line, or nothing where none is listed
+abbrev pub typedText : List ℕ → ℕ → Answer → List ℕ
+typedText b address (Value kind) = sheetText b address kind
+typedText b address (Refused n) = []
+
+-- the line of the module at an address
+unfoldable pub moduleText : List ℕ → ℕ → List ℕ
+moduleText b address = typedText b address (typeAnswer b address)
+
+-- the lines of the modules at the first n addresses
+unfoldable pub modulesText : List ℕ → ℕ → List ℕ
+modulesText b zero = []
+modulesText b (suc n) = modulesText b n ++ moduleText b n
+
+-- the line of a fault; a refusal of 0 is none
+unfoldable pub faultText : ℕ → ℕ → List ℕ
+faultText refusal offset = cond (eqb refusal 0) [] (brokenLine offset refusal)
+
+-- the whole listing, in address order
+unfoldable pub listingText : List ℕ → Stream → List ℕ
+listingText b stream =
+    header ++ modulesText b addresses ++ faultText (stream .refusal) (stream .offset) ++ countLine (stream .heard) (stream .refused)

@@ -1,0 +1,46 @@
+-- What holds of replays; proofs/ proves each statement, for every hearing.
+use Prim.Native.Nat.{ℕ, _+_, _≤_, _<_}
+use mathlib.Core.Path.{_≡_}
+use mathlib.Core.List.{List, _++_}
+use lib.ListN.{length, take, drop}
+use Rattle.laws.specs.Refusals.{badNumber}
+use Rattle.recording.specs.Limits.{longest}
+use Rattle.replay.specs.Replay.{Hearing, replayed}
+use Rattle.replay.specs.Window.{begun, turnOver, heardStream, heardWindow}
+use Rattle.replay.specs.Parts.{then, Parts, noParts, onePart, allParts, joined, streamOf}
+
+-- a replay stops within the input
+abbrev pub StopsInside : Type 0
+StopsInside = (hear : Hearing) (b s : List ℕ) → replayed hear b s .replay .at ≤ length s
+
+-- the replay of s with more input after it is the replay of s, and then that of what it left with the rest after it
+abbrev pub RunsFollow : Type 0
+RunsFollow =
+    (hear : Hearing) (b s t : List ℕ)
+    → replayed hear b (s ++ t) ≡ then (replayed hear b s) (replayed hear (replayed hear b s .picture) (drop (replayed hear b s .replay .at) s ++ t))
+
+-- an input heard in parts is the input heard as a whole, however it is cut
+abbrev pub PartsAreWhole : Type 0
+PartsAreWhole = (hear : Hearing) (b : List ℕ) (parts : List (List ℕ)) → allParts hear (noParts b) parts .total ≡ replayed hear b (joined parts)
+
+-- a bad number is the end: no later part changes anything
+abbrev pub BadNumberEnds : Type 0
+BadNumberEnds = (hear : Hearing) (b s t : List ℕ) → replayed hear b s .replay .refusal ≡ badNumber → replayed hear b (s ++ t) ≡ replayed hear b s
+
+-- where no bad number was found, less is left than the longest record
+abbrev pub LittleIsLeft : Type 0
+LittleIsLeft =
+    (hear : Hearing) (b s : List ℕ) → (replayed hear b s .replay .refusal ≡ badNumber → ⊥) → length s < replayed hear b s .replay .at + longest
+
+-- a call of `hear_part` is one part: where the window holds what is left and the part after it, the answer is what is kept of one part more,
+-- the picture is the one after it, and the window holds what is left then
+abbrev pub CallIsPart : Type 0
+CallIsPart =
+    (hear : Hearing) (p : Parts) (part w : List ℕ) → length (p .left) + length part ≤ length w → take (length (p .left) + length part) w ≡ p .left ++ part
+    → (heardStream hear (p .total .picture) w (streamOf p) (length part) ≡ streamOf (onePart hear p part))
+    × (turnOver hear (p .total .picture) w (streamOf p) (length part) .picture ≡ onePart hear p part .total .picture)
+    × (take (length (onePart hear p part .left)) (heardWindow hear (p .total .picture) w (streamOf p) (length part)) ≡ onePart hear p part .left)
+
+-- and before the first part nothing is kept
+abbrev pub BeginsWithNone : Type 0
+BeginsWithNone = (b : List ℕ) → begun ≡ streamOf (noParts b)

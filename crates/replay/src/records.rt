@@ -1,0 +1,72 @@
+// Hearing the records of a slice.
+use picture::Outcome;
+use recording::Entry;
+ghost use mathlib.Core.Path.{_≡_};
+ghost use Rattle.picture.specs.Bytes.{hearing};
+ghost use Rattle.replay.specs.Replay.{one, isDone, heardBy, replayed};
+
+// The records accepted and refused, the offset of the first byte that is not read as a record, and what is at fault there:
+// the refusal's number, 0 where the slice ends, and its offset.
+pub struct Replay {
+    pub heard: u64,
+    pub refused: u64,
+    pub at: usize,
+    pub refusal: u8,
+    pub offset: usize,
+}
+
+// Hears a frame: 1 where it is accepted, else 0.
+fn hear_one(picture: &mut [u8], identifier: u32, remote: u32, data: &[u8]) -> u64
+    ensures { λ r. ⌜ r ≡ one (heardBy (now (picture .entry)) identifier remote (now («data» .entry)) .accepted) ⌝ }
+    ensures { λ _. ⌜ now (picture .exit) ≡ heardBy (now (picture .entry)) identifier remote (now («data» .entry)) .picture ⌝ }
+{
+    match picture::hear(picture, identifier, remote, data) {
+        Outcome::Done => 1,
+        Outcome::Refused(_) => 0,
+    }
+}
+
+// Hears every record of s, in order, up to its end or to a fault.
+pub fn hear_all(picture: &mut [u8], s: &[u8]) -> Replay
+    ensures { λ r. ⌜ r ≡ replayed heardBy (now (picture .entry)) (now (s .entry)) .replay ⌝ }
+    ensures { λ _. ⌜ now (picture .exit) ≡ replayed heardBy (now (picture .entry)) (now (s .entry)) .picture ⌝ }
+{
+    let mut heard: u64 = 0;
+    let mut refused: u64 = 0;
+    let mut at: usize = 0;
+    loop {
+        match recording::read_record(s, at) {
+            Entry::Record {
+                gap: _,
+                identifier,
+                remote,
+                start,
+                len: _,
+                next,
+            } => {
+                let accepted = hear_one(picture, identifier, remote, &s[start..next]);
+                heard = heard + accepted;
+                refused = refused + (1 - accepted);
+                at = next;
+            }
+            Entry::End => {
+                return Replay {
+                    heard,
+                    refused,
+                    at,
+                    refusal: 0,
+                    offset: at,
+                };
+            }
+            Entry::Broken { refusal, offset } => {
+                return Replay {
+                    heard,
+                    refused,
+                    at,
+                    refusal,
+                    offset,
+                };
+            }
+        }
+    }
+}

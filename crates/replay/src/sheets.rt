@@ -1,0 +1,61 @@
+// What the listing counts of a module: its whole names, and its told cells.
+use picture::Answer;
+use picture::Outcome;
+ghost use mathlib.Core.Path.{_≡_};
+ghost use Prim.Native.Nat.{_+_, _≤_};
+ghost use Rattle.replay.specs.Sheets.{wholeName, toldCell, wholeNames, toldCells};
+
+// The most names that a module has, the length of each, and the most cells.
+const MOST_NAMES: u32 = 8;
+
+const NAME_LENGTH: usize = 16;
+
+const MOST_CELLS: u32 = 256;
+
+// The number for a place that is not heard.
+const NOT_HEARD: u16 = 256;
+
+// 1 for a name that is whole, else 0.
+fn whole_name(picture: &[u8], address: u32, name: u32) -> u64
+    ensures { λ r. ⌜ r ≡ wholeName (now (picture .entry)) address name ⌝ }
+{
+    let mut characters = [0u8; NAME_LENGTH];
+    match picture::name(picture, address, name, &mut characters) {
+        Outcome::Done => 1,
+        Outcome::Refused(_) => 0,
+    }
+}
+
+// 1 for a cell that is told, else 0.
+fn told_cell(picture: &[u8], address: u32, location: u32) -> u64
+    ensures { λ r. ⌜ r ≡ toldCell (now (picture .entry)) address location ⌝ }
+{
+    match picture::cell(picture, address, location) {
+        Answer::Value(v) => { if v < NOT_HEARD { 1 } else { 0 } }
+        Answer::Refused(_) => 0,
+    }
+}
+
+pub fn whole_names(picture: &[u8], address: u32) -> u64
+    ensures { λ r. ⌜ r ≡ wholeNames (now (picture .entry)) address ⌝ }
+{
+    let mut count: u64 = 0;
+    let mut i: u32 = 0;
+    while i < MOST_NAMES {
+        count = count + whole_name(picture, address, i + 1);
+        i += 1;
+    }
+    count
+}
+
+pub fn told_cells(picture: &[u8], address: u32) -> u64
+    ensures { λ r. ⌜ r ≡ toldCells (now (picture .entry)) address ⌝ }
+{
+    let mut count: u64 = 0;
+    let mut i: u32 = 0;
+    while i < MOST_CELLS {
+        count = count + told_cell(picture, address, i);
+        i += 1;
+    }
+    count
+}

@@ -1,0 +1,120 @@
+-- A message that is laid out and taken in again is the same message.
+-- Assumes nothing.
+use Prim.Native.Nat.{ℕ, _+_, _*_, _/_, _%_, _<_}
+use native.Mathlib.Omega.{arith}
+use mathlib.Core.Path.{_≡_, refl, ap, _∙_}
+use mathlib.Core.List.{List, _++_}
+use mathlib.Core.Bool.{true, cond, _&&_}
+use lib.Dec.{eqb}
+use borrow.Author.Tests.{eq-eqb}
+use Rattle.frame.specs.declared.identifiers.Address.{Address}
+use Rattle.frame.specs.declared.messages.Time.the-variants.{DipSwitch, Permanently, Seconds}
+use Rattle.frame.specs.declared.messages.Glow.the-variants.{Off, On, Slow, Fast, VeryFast}
+use Rattle.frame.specs.declared.messages.Command.{Command}
+use Rattle.frame.specs.declared.messages.Command.the-variants.{TypeIr, TypeBl, Buttons, CellTold, BlockTold, CellAsked, BlockAsked, DumpAsked, CellSet, BlockSet, Errors, ErrorsAsked, NameOne, NameTwo, NameThree, NameAsked, StatusAsked, InputStatus, LedsAll, Leds, BlindStatus, BlindStop, BlindUp, BlindDown}
+use Rattle.frame.specs.declared.messages.Message.{Message}
+use Rattle.frame.specs.declared.messages.Message.the-variants.{TypeRequest, Tells}
+use Rattle.velbus.specs.declared.parts.Six.{Six}
+use Rattle.velbus.specs.declared.parts.Parts.{Parts}
+use Rattle.velbus.specs.declared.parts.Held.the-variants.{Holds, Nothing}
+use Rattle.velbus.specs.Parts.{commandParts, partsOf, commandFrom, messageFrom, addressIn, sameSix, sameParts, heldBy}
+use Rattle.velbus.specs.Layout.{laidBytes, takenParts, blankBetween, heldIn}
+use Rattle.velbus.specs.Statements.{Fitting, LaidIsHeld}
+
+-- The parts of a message make the message.
+
+abbrev Again : Address → Message → Parts → Type 0
+Again a m p = (addressIn p ≡ a) × (messageFrom p ≡ m)
+
+command-again : (a : Address) (m : Command) → Again a (Tells m) (commandParts a m)
+unfolding commandParts messageFrom commandFrom
+command-again a (TypeIr b c d e f) = (refl, refl)
+command-again a (TypeBl b c d) = (refl, refl)
+command-again a (Buttons b c d) = (refl, refl)
+command-again a (CellTold l v) = (refl, refl)
+command-again a (BlockTold l b c d e) = (refl, refl)
+command-again a (CellAsked l) = (refl, refl)
+command-again a (BlockAsked l) = (refl, refl)
+command-again a DumpAsked = (refl, refl)
+command-again a (CellSet l v) = (refl, refl)
+command-again a (BlockSet l b c d e) = (refl, refl)
+command-again a (Errors b c d) = (refl, refl)
+command-again a ErrorsAsked = (refl, refl)
+command-again a (NameOne n b c d e f g) = (refl, refl)
+command-again a (NameTwo n b c d e f g) = (refl, refl)
+command-again a (NameThree n b c d e) = (refl, refl)
+command-again a (NameAsked n) = (refl, refl)
+command-again a (StatusAsked n) = (refl, refl)
+command-again a (InputStatus b c d e) = (refl, refl)
+command-again a (LedsAll b c d) = (refl, refl)
+command-again a (Leds Off mask) = (refl, refl)
+command-again a (Leds On mask) = (refl, refl)
+command-again a (Leds Slow mask) = (refl, refl)
+command-again a (Leds Fast mask) = (refl, refl)
+command-again a (Leds VeryFast mask) = (refl, refl)
+command-again a (BlindStatus n b c d e f g) = (refl, refl)
+command-again a (BlindStop n) = (refl, refl)
+command-again a (BlindUp n DipSwitch) = (refl, refl)
+command-again a (BlindUp n Permanently) = (refl, refl)
+command-again a (BlindUp n (Seconds s)) = (refl, refl)
+command-again a (BlindDown n DipSwitch) = (refl, refl)
+command-again a (BlindDown n Permanently) = (refl, refl)
+command-again a (BlindDown n (Seconds s)) = (refl, refl)
+
+again : (a : Address) (m : Message) → Again a m (partsOf a m)
+unfolding partsOf messageFrom
+again a TypeRequest = (refl, refl)
+again a (Tells m) = command-again a m
+
+self : (x : ℕ) → eqb x x ≡ true
+self x = eq-eqb x x refl
+
+same-six-self : (s : Six) → sameSix s s ≡ true
+unfolding sameSix
+same-six-self s = rw (self (s .0), self (s .1), self (s .2), self (s .3), self (s .4), self (s .5))
+
+same-self : (p : Parts) → sameParts p p ≡ true
+unfolding sameParts
+same-self p =
+    rw (self (p .what), self (p .address), self (p .channel), self (p .glow), self (p .location), same-six-self (p .bytes), self (p .time), self (p .seconds))
+
+holds-itself : (a : Address) (m : Message) → heldBy (partsOf a m) ≡ Holds a m
+unfolding heldBy
+holds-itself a m = let g = again a m in rw (g .0, g .1, same-self (partsOf a m))
+
+-- The bytes of some parts are the parts.
+
+low-high : (n : ℕ) → n < 65536 → n % 256 + 256 * (n / 256 % 256) ≡ n
+low-high n h = omega arith
+
+low-highs : (n : ℕ) → n < 4294967296 → n % 256 + 256 * (n / 256 % 256) + 65536 * (n / 65536 % 256) + 16777216 * (n / 16777216 % 256) ≡ n
+low-highs n h =
+    let low : n % 256 + 256 * (n / 256 % 256) ≡ n % 65536 = omega arith in
+    let top : n / 16777216 ≡ n / 65536 / 256 = omega arith in
+    let high : n / 65536 % 256 + 256 * (n / 65536 / 256 % 256) ≡ n / 65536 = low-high (n / 65536) (omega arith) in
+    rw top (omega arith)
+
+taken-again : (p : Parts) (after : List ℕ) → p .location < 65536 → p .seconds < 4294967296 → takenParts (laidBytes p ++ after) ≡ p
+unfolding takenParts laidBytes
+taken-again p after hl hs =
+    let l = low-high (p .location) hl in
+    let s = low-highs (p .seconds) hs in
+    λ i. record {
+      what = p .what;
+      address = p .address;
+      channel = p .channel;
+      glow = p .glow;
+      location = l i;
+      bytes = p .bytes;
+      time = p .time;
+      seconds = s i;
+    }
+
+blank-laid : (p : Parts) (after : List ℕ) → blankBetween (laidBytes p ++ after) ≡ true
+unfolding blankBetween laidBytes
+blank-laid p after = refl
+
+pub laid-is-held : LaidIsHeld
+unfolding heldIn
+laid-is-held a m after f =
+    rw (blank-laid (partsOf a m) after, taken-again (partsOf a m) after (f .location) (f .seconds)) (holds-itself a m)

@@ -1,0 +1,12 @@
+use mathlib.Core.Path.{refl}
+use Rattle.velbus.specs.Layout.{laidBytes}
+use borrow.Author.Needs.{needs}
+use Rattle.velbus.proofs.layout.laid.Statement.{statement}
+use Rattle.velbus.proofs.layout.laid.Tie as tie
+
+returns : tie.Need-returns
+unfolding laidBytes
+returns c = refl
+
+pub laid-spec : {M : Type 1} → statement M
+laid-spec = tie.close (tie.spec (λ c. search needs) (λ c. search needs) (λ c. search needs) (λ c. search needs) (λ c. search needs) (λ c. search needs) returns)

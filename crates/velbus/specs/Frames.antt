@@ -1,0 +1,61 @@
+-- Frames read into a lent message, and messages written into a lent frame: the result word, and what the buffer then holds.
+use Prim.Native.Nat.{ℕ, _/_, _%_}
+use mathlib.Core.List.{List, [], _∷_}
+use mathlib.Core.Bool.{cond}
+use lib.Dec.{ltb}
+use lib.ListN.{length}
+use Rattle.laws.specs.Refusals.{notListed, tooShort}
+use Rattle.laws.specs.Copies.{copiedIn}
+use Rattle.frame.specs.Bytes.{bytesOf}
+use Rattle.frame.specs.Writing.{writing}
+use Rattle.frame.specs.declared.reader.Reading.{Reading}
+use Rattle.frame.specs.declared.reader.Reading.the-variants as r
+use Rattle.frame.specs.declared.writer.Frame.{Frame}
+use Rattle.frame.specs.declared.writer.Writing.{Writing}
+use Rattle.frame.specs.declared.writer.Writing.the-variants as w
+use Rattle.velbus.specs.declared.parts.Held.{Held}
+use Rattle.velbus.specs.declared.parts.Held.the-variants.{Holds, Nothing}
+use Rattle.velbus.specs.Words.{refusedWord, roomWord}
+use Rattle.velbus.specs.Parts.{partsOf}
+use Rattle.velbus.specs.Layout.{messageSize, laidBytes, heldIn}
+
+-- velbus_read: the reader's own refusals, then 13
+abbrev pub readWord : Reading → ℕ → ℕ
+readWord (r.Read a m) room = roomWord room messageSize
+readWord (r.Refused number) room = refusedWord number
+
+abbrev pub readInto : Reading → List ℕ → List ℕ
+readInto (r.Read a m) out = copiedIn out 0 (laidBytes (partsOf a m))
+readInto (r.Refused number) out = out
+
+-- a frame in 12 bytes: identifier low, identifier high, remote flag, count, eight data bytes
+abbrev pub frameSize : ℕ
+frameSize = 12
+
+abbrev pub frameBytes : Frame → List ℕ
+frameBytes f = f .identifier % 256 ∷ f .identifier / 256 % 256 ∷ f .remote % 256 ∷ f .bytes .0 % 256 ∷ bytesOf (f .bytes)
+
+-- the writer's own refusals, then 13
+abbrev pub writtenWord : Writing → ℕ → ℕ
+writtenWord (w.Written f) room = roomWord room frameSize
+writtenWord (w.Refused number) room = refusedWord number
+
+abbrev pub writtenInto : Writing → List ℕ → List ℕ
+writtenInto (w.Written f) out = copiedIn out 0 (frameBytes f)
+writtenInto (w.Refused number) out = out
+
+-- bytes that are no message are 6
+abbrev pub heldWord : ℕ → Held → ℕ → ℕ
+heldWord kind (Holds a m) room = writtenWord (writing kind a m) room
+heldWord kind Nothing room = refusedWord notListed
+
+abbrev pub heldInto : ℕ → Held → List ℕ → List ℕ
+heldInto kind (Holds a m) out = writtenInto (writing kind a m) out
+heldInto kind Nothing out = out
+
+-- velbus_write: a message buffer too short is 13, before anything else
+unfoldable pub writeWord : ℕ → List ℕ → ℕ → ℕ
+writeWord kind message room = cond (ltb (length message) messageSize) (refusedWord tooShort) (heldWord kind (heldIn message) room)
+
+unfoldable pub writeInto : ℕ → List ℕ → List ℕ → List ℕ
+writeInto kind message out = cond (ltb (length message) messageSize) out (heldInto kind (heldIn message) out)

@@ -1,0 +1,116 @@
+// Frames read into a lent message, and messages written into a lent frame.
+use crate::layout::MESSAGE_SIZE;
+use crate::layout::held_in;
+use crate::layout::laid;
+use crate::parts::Held;
+use crate::parts::parts_of;
+use crate::words::refused;
+use crate::words::room_word;
+use frame::Address;
+use frame::Frame;
+use frame::Message;
+use frame::Reading;
+use frame::Writing;
+use laws::NOT_LISTED;
+use laws::TOO_SHORT;
+use laws::copy_in;
+ghost use mathlib.Core.Path.{_≡_};
+ghost use lib.ListN.{length};
+ghost use Rattle.frame.specs.Reading.{reading};
+ghost use Rattle.frame.specs.Writing.{writing};
+ghost use Rattle.laws.specs.Copies.{copiedIn};
+ghost use Rattle.velbus.specs.Words.{roomWord};
+ghost use Rattle.velbus.specs.Parts.{partsOf};
+ghost use Rattle.velbus.specs.Layout.{messageSize, laidBytes, heldIn};
+ghost use Rattle.velbus.specs.Frames.{frameSize, frameBytes, readWord, readInto, writtenWord, writtenInto, heldWord, heldInto, writeWord, writeInto};
+
+const FRAME_SIZE: u16 = 12;
+
+fn lay_message(message: &mut [u8], a: Address, m: Message) -> u32
+    ensures { λ r. ⌜ r ≡ roomWord (length (now (message .entry))) messageSize ⌝ }
+    ensures { λ _. ⌜ now (message .exit) ≡ copiedIn (now (message .entry)) 0 (laidBytes (partsOf a m)) ⌝ }
+{
+    let room = message.len();
+    let bytes = laid(parts_of(a, m));
+    copy_in(message, 0, &bytes);
+    room_word(room, MESSAGE_SIZE)
+}
+
+#[no_mangle]
+pub extern "C" fn velbus_read(
+    kind: u32,
+    identifier: u32,
+    remote: u32,
+    data: &[u8],
+    message: &mut [u8],
+) -> u32
+    ensures { λ r. ⌜ r ≡ readWord (reading kind identifier remote (now («data» .entry))) (length (now (message .entry))) ⌝ }
+    ensures { λ _. ⌜ now (message .exit) ≡ readInto (reading kind identifier remote (now («data» .entry))) (now (message .entry)) ⌝ }
+{
+    match frame::read(kind, identifier, remote, data) {
+        Reading::Read(a, m) => lay_message(message, a, m),
+        Reading::Refused(number) => refused(number),
+    }
+}
+
+// Identifier low, identifier high, remote flag, count, eight data bytes.
+fn bytes_of(f: Frame) -> [u8; 12]
+    ensures { λ r. ⌜ r ≡ frameBytes f ⌝ }
+{
+    let d = f.bytes;
+    [
+        (f.identifier % 256) as u8,
+        (f.identifier / 256 % 256) as u8,
+        (f.remote % 256) as u8,
+        (d.0 % 256) as u8,
+        d.1,
+        d.2,
+        d.3,
+        d.4,
+        d.5,
+        d.6,
+        d.7,
+        d.8,
+    ]
+}
+
+fn lay_frame(out: &mut [u8], f: Frame) -> u32
+    ensures { λ r. ⌜ r ≡ roomWord (length (now (out .entry))) frameSize ⌝ }
+    ensures { λ _. ⌜ now (out .exit) ≡ copiedIn (now (out .entry)) 0 (frameBytes f) ⌝ }
+{
+    let room = out.len();
+    let bytes = bytes_of(f);
+    copy_in(out, 0, &bytes);
+    room_word(room, FRAME_SIZE)
+}
+
+fn write_message(kind: u32, a: Address, m: Message, out: &mut [u8]) -> u32
+    ensures { λ r. ⌜ r ≡ writtenWord (writing kind a m) (length (now (out .entry))) ⌝ }
+    ensures { λ _. ⌜ now (out .exit) ≡ writtenInto (writing kind a m) (now (out .entry)) ⌝ }
+{
+    match frame::write(kind, a, m) {
+        Writing::Written(f) => lay_frame(out, f),
+        Writing::Refused(number) => refused(number),
+    }
+}
+
+fn write_held(kind: u32, held: Held, out: &mut [u8]) -> u32
+    ensures { λ r. ⌜ r ≡ heldWord kind held (length (now (out .entry))) ⌝ }
+    ensures { λ _. ⌜ now (out .exit) ≡ heldInto kind held (now (out .entry)) ⌝ }
+{
+    match held {
+        Held::Holds(a, m) => write_message(kind, a, m, out),
+        Held::Nothing => refused(NOT_LISTED),
+    }
+}
+
+#[no_mangle]
+pub extern "C" fn velbus_write(kind: u32, message: &[u8], out: &mut [u8]) -> u32
+    ensures { λ r. ⌜ r ≡ writeWord kind (now (message .entry)) (length (now (out .entry))) ⌝ }
+    ensures { λ _. ⌜ now (out .exit) ≡ writeInto kind (now (message .entry)) (now (out .entry)) ⌝ }
+{
+    if message.len() < MESSAGE_SIZE as usize {
+        return refused(TOO_SHORT);
+    }
+    write_held(kind, held_in(message), out)
+}

@@ -1,0 +1,8 @@
+// The C interface: numbers and byte buffers in, one result word out.
+mod frames;
+mod layout;
+mod parts;
+mod pictures;
+mod recordings;
+mod rows;
+mod words;

@@ -1,0 +1,42 @@
+// The result word: bits 0 to 15 the value, bits 16 to 23 the refusal number.
+use laws::TOO_SHORT;
+use laws::wide32;
+use picture::Answer;
+use picture::Outcome;
+ghost use mathlib.Core.Path.{_≡_};
+ghost use Rattle.velbus.specs.Words.{refusedWord, outcomeWord, answerWord, roomWord};
+
+pub fn refused(number: u8) -> u32
+    ensures { λ r. ⌜ r ≡ refusedWord number ⌝ }
+{
+    65536 * wide32(number)
+}
+
+pub fn outcome_word(outcome: Outcome) -> u32
+    ensures { λ r. ⌜ r ≡ outcomeWord outcome ⌝ }
+{
+    match outcome {
+        Outcome::Done => 0,
+        Outcome::Refused(number) => refused(number),
+    }
+}
+
+pub fn answer_word(answer: Answer) -> u32
+    ensures { λ r. ⌜ r ≡ answerWord answer ⌝ }
+{
+    match answer {
+        Answer::Value(value) => value as u32,
+        Answer::Refused(number) => refused(number),
+    }
+}
+
+// The word of a call that fills `need` bytes of a buffer of `room`.
+pub fn room_word(room: usize, need: u16) -> u32
+    ensures { λ r. ⌜ r ≡ roomWord room need ⌝ }
+{
+    if need as usize <= room {
+        need as u32
+    } else {
+        refused(TOO_SHORT)
+    }
+}
