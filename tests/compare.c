@@ -448,7 +448,7 @@ static void every_length(void)
         same("a message too short", NULL, word, n < 20 ? refused(13) : VELBUS_FRAME_SIZE);
     }
     /* the picture itself */
-    for (size_t n = 0; n <= VELBUS_PICTURE_SIZE + 1; n = n < 600 ? n + 1 : n < VELBUS_PICTURE_SIZE - 8 ? n + 97 : n + 1) {
+    for (size_t n = 0; n <= VELBUS_PICTURE_SIZE + 1; n++) {
         set_length(&picture, n);
         memset(picture.start, 0, n);
         unsigned expected = n < VELBUS_PICTURE_SIZE ? 13 : 0;

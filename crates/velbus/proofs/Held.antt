@@ -1,12 +1,13 @@
 -- A message that is laid out and taken in again is the same message.
 -- Assumes nothing.
-use Prim.Native.Nat.{ℕ, _+_, _*_, _/_, _%_, _<_}
+use Prim.Native.Nat.{ℕ, _+_, _*_, _/_, _%_, _<_, _≤_}
 use native.Mathlib.Omega.{arith}
 use mathlib.Core.Path.{_≡_, refl, ap, _∙_}
 use mathlib.Core.List.{List, _++_}
 use mathlib.Core.Bool.{true, cond, _&&_}
 use lib.Dec.{eqb}
-use borrow.Author.Tests.{eq-eqb}
+use lib.ListN.{length, length-append}
+use borrow.Author.Tests.{eq-eqb, le-ltb}
 use Rattle.frame.specs.declared.identifiers.Address.{Address}
 use Rattle.frame.specs.declared.messages.Time.the-variants.{DipSwitch, Permanently, Seconds}
 use Rattle.frame.specs.declared.messages.Glow.the-variants.{Off, On, Slow, Fast, VeryFast}
@@ -18,7 +19,7 @@ use Rattle.velbus.specs.declared.parts.Six.{Six}
 use Rattle.velbus.specs.declared.parts.Parts.{Parts}
 use Rattle.velbus.specs.declared.parts.Held.the-variants.{Holds, Nothing}
 use Rattle.velbus.specs.Parts.{commandParts, partsOf, commandFrom, messageFrom, addressIn, sameSix, sameParts, heldBy}
-use Rattle.velbus.specs.Layout.{laidBytes, takenParts, blankBetween, heldIn}
+use Rattle.velbus.specs.Layout.{messageSize, laidBytes, takenParts, blankBetween, heldIn}
 use Rattle.velbus.specs.Statements.{Fitting, LaidIsHeld}
 
 -- The parts of a message make the message.
@@ -114,7 +115,11 @@ blank-laid : (p : Parts) (after : List ℕ) → blankBetween (laidBytes p ++ aft
 unfolding blankBetween laidBytes
 blank-laid p after = refl
 
+laid-long : (p : Parts) (after : List ℕ) → messageSize ≤ length (laidBytes p ++ after)
+unfolding laidBytes
+laid-long p after = rw (length-append) (omega arith)
+
 pub laid-is-held : LaidIsHeld
 unfolding heldIn
 laid-is-held a m after f =
-    rw (blank-laid (partsOf a m) after, taken-again (partsOf a m) after (f .location) (f .seconds)) (holds-itself a m)
+    rw (le-ltb (length (laidBytes (partsOf a m) ++ after)) messageSize (laid-long (partsOf a m) after), blank-laid (partsOf a m) after, taken-again (partsOf a m) after (f .location) (f .seconds)) (holds-itself a m)

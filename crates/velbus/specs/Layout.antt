@@ -2,8 +2,8 @@
 use Prim.Native.Nat.{ℕ, _+_, _*_, _/_, _%_}
 use mathlib.Core.List.{List, [], _∷_}
 use mathlib.Core.Bool.{Bool, cond, _&&_}
-use lib.Dec.{eqb}
-use lib.ListN.{getD}
+use lib.Dec.{eqb, ltb}
+use lib.ListN.{getD, length}
 use Rattle.velbus.specs.declared.parts.Parts.{Parts}
 use Rattle.velbus.specs.declared.parts.Held.{Held}
 use Rattle.velbus.specs.declared.parts.Held.the-variants.{Nothing}
@@ -39,6 +39,6 @@ takenParts b =
 unfoldable pub blankBetween : List ℕ → Bool
 blankBetween b = eqb (getD b 13 0) 0 && (eqb (getD b 14 0) 0 && eqb (getD b 15 0) 0)
 
--- the message that the bytes are
+-- the message that the first bytes are; fewer than a message has are none
 unfoldable pub heldIn : List ℕ → Held
-heldIn b = cond (blankBetween b) (heldBy (takenParts b)) Nothing
+heldIn b = cond (ltb (length b) messageSize) Nothing (cond (blankBetween b) (heldBy (takenParts b)) Nothing)

@@ -1,12 +1,21 @@
--- What is promised of a message's layout. The proofs are in proofs/Held.antt.
-use Prim.Native.Nat.{ℕ, _<_}
+-- What is promised of messages and frames in a C caller's buffers. The proofs are in proofs/Held.antt and proofs/Again.antt.
+use Prim.Native.Nat.{ℕ, _<_, _≤_}
 use mathlib.Core.Path.{_≡_}
 use mathlib.Core.List.{List, _++_}
+use lib.ListN.{length}
+use Rattle.laws.specs.Copies.{copiedIn}
+use Rattle.frame.specs.Bytes.{dataBytes}
+use Rattle.frame.specs.Reading.{reading}
+use Rattle.frame.specs.Statements.{Bytes}
+use Rattle.frame.specs.declared.reader.Reading.the-variants.{Read}
+use Rattle.frame.specs.declared.writer.Frame.{Frame}
 use Rattle.frame.specs.declared.identifiers.Address.{Address}
 use Rattle.frame.specs.declared.messages.Message.{Message}
 use Rattle.velbus.specs.declared.parts.Held.the-variants.{Holds}
 use Rattle.velbus.specs.Parts.{partsOf}
-use Rattle.velbus.specs.Layout.{laidBytes, heldIn}
+use Rattle.velbus.specs.Layout.{messageSize, laidBytes, heldIn}
+use Rattle.velbus.specs.Frames.{frameBytes, frameSize, readInto, writeWord, writeInto}
+use Rattle.velbus.specs.Words.{roomWord}
 
 -- the location and the seconds of the message fit their fields, as those of the code's `u16` and `u32` do
 pub record Fitting (a : Address) (m : Message) : Type 0 where
@@ -16,3 +25,21 @@ pub record Fitting (a : Address) (m : Message) : Type 0 where
 -- a message that is laid out and taken in again is the same message, whatever stands after it
 abbrev pub LaidIsHeld : Type 0
 LaidIsHeld = (a : Address) (m : Message) (after : List ℕ) → Fitting a m → heldIn (laidBytes (partsOf a m) ++ after) ≡ Holds a m
+
+-- velbus_write gives just this frame, into the buffer `out`
+pub record WritesAgain (kind : ℕ) (message out : List ℕ) (identifier remote : ℕ) (s : List ℕ) : Type 0 where
+  pub frame : Frame
+  pub word : writeWord kind message (length out) ≡ roomWord (length out) frameSize
+  pub buffer : writeInto kind message out ≡ copiedIn out 0 (frameBytes frame)
+  pub same-identifier : frame .identifier ≡ identifier
+  pub same-remote : frame .remote ≡ remote
+  pub same-data : dataBytes (frame .bytes) ≡ s
+
+-- a C caller that reads a frame into a message and writes the message gets the same frame
+abbrev pub ReadThenWrittenAgain : Type 0
+ReadThenWrittenAgain =
+    (kind identifier remote : ℕ) (s message out : List ℕ) (a : Address) (m : Message) →
+    Bytes s →
+    messageSize ≤ length message →
+    reading kind identifier remote s ≡ Read a m →
+    WritesAgain kind (readInto (reading kind identifier remote s) message) out identifier remote s

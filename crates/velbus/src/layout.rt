@@ -78,9 +78,11 @@ fn blank_between(b: &[u8]) -> bool
 
 // The message that the first bytes are.
 pub fn held_in(b: &[u8]) -> Held
-    requires { ⌜ messageSize ≤ length (now b) ⌝ }
     ensures { λ r. ⌜ r ≡ heldIn (now (b .entry)) ⌝ }
 {
+    if b.len() < MESSAGE_SIZE as usize {
+        return Held::Nothing;
+    }
     if blank_between(b) {
         held_by(taken(b))
     } else {
