@@ -1,5 +1,6 @@
-/* A second implementation of the rules, written from the paper alone and made differently on purpose: it keeps the standing
- * frames themselves and works every answer out from them anew. Slow and plain; it is what the library is compared with. */
+/* A second implementation of the rules, written from the papers and the layouts of docs/INTERFACE.md and not from the proved code,
+ * and made differently on purpose: it keeps the standing frames themselves and works every answer out from them anew. Slow and
+ * plain; it is what the library is compared with. */
 #ifndef REFERENCE_H
 #define REFERENCE_H
 

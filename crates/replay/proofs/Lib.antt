@@ -5,3 +5,4 @@ pub mod Calls
 pub mod Texts
 pub mod Examples
 pub mod Listings
+pub mod AllTurns

@@ -1,10 +1,10 @@
 -- What hearing an input in parts comes to, in plain numbers.
 use Prim.Native.Nat.{ℕ, _+_}
 use mathlib.Core.List.{List, [], _∷_, _++_}
-use lib.ListN.{length, drop}
+use lib.ListN.{length, take, drop}
 use Rattle.replay.specs.declared.window.Stream.{Stream}
 use Rattle.replay.specs.Replay.{Hearing, Run, stopped, replayed}
-use Rattle.replay.specs.Window.{kept}
+use Rattle.replay.specs.Window.{kept, begun, turnOver, heardStream, heardWindow}
 
 -- one run, and a second from where the first stopped: counts and offsets add up
 abbrev pub then : Run → Run → Run
@@ -56,3 +56,30 @@ streamOf p = record {
   refusal = p .total .replay .refusal;
   offset = kept (p .total .replay .offset);
 }
+
+-- what a program holds between two turns
+pub record Held : Type 0 where
+  pub picture : List ℕ
+  pub window : List ℕ
+  pub stream : Stream
+
+-- the window after `part`, which has room there, was read into it behind its first `left` bytes
+abbrev pub readBehind : List ℕ → ℕ → List ℕ → List ℕ
+readBehind w left part = take left w ++ (part ++ drop (left + length part) w)
+
+-- one turn: a part is read into the window, and `hear_part` is called
+abbrev pub oneTurn : Hearing → Held → List ℕ → Held
+oneTurn hear t part = record {
+  picture = turnOver hear (t .picture) (readBehind (t .window) (t .stream .left) part) (t .stream) (length part) .picture;
+  window = heardWindow hear (t .picture) (readBehind (t .window) (t .stream .left) part) (t .stream) (length part);
+  stream = heardStream hear (t .picture) (readBehind (t .window) (t .stream .left) part) (t .stream) (length part);
+}
+
+-- a turn for each part
+unfoldable pub allTurns : Hearing → Held → List (List ℕ) → Held
+allTurns hear t [] = t
+allTurns hear t (part ∷ parts) = allTurns hear (oneTurn hear t part) parts
+
+-- before the first turn
+abbrev pub atFirst : List ℕ → List ℕ → Held
+atFirst b w = record { picture = b; window = w; stream = begun }

@@ -6,8 +6,8 @@ use lib.ListN.{length, take, drop}
 use Rattle.laws.specs.Refusals.{badNumber}
 use Rattle.recording.specs.Limits.{longest}
 use Rattle.replay.specs.Replay.{Hearing, replayed}
-use Rattle.replay.specs.Window.{begun, turnOver, heardStream, heardWindow}
-use Rattle.replay.specs.Parts.{then, Parts, noParts, onePart, allParts, joined, streamOf}
+use Rattle.replay.specs.Window.{kept, begun, turnOver, heardStream, heardWindow}
+use Rattle.replay.specs.Parts.{then, Parts, noParts, onePart, allParts, joined, streamOf, allTurns, atFirst}
 
 -- a replay stops within the input
 abbrev pub StopsInside : Type 0
@@ -44,3 +44,13 @@ CallIsPart =
 -- and before the first part nothing is kept
 abbrev pub BeginsWithNone : Type 0
 BeginsWithNone = (b : List ℕ) → begun ≡ streamOf (noParts b)
+
+-- the turns over the parts of an input give the counts, the fault and the picture of the replay over the whole input
+abbrev pub TurnsAreReplay : Type 0
+TurnsAreReplay =
+    (hear : Hearing) (b w : List ℕ) (parts : List (List ℕ))
+    → (allTurns hear (atFirst b w) parts .picture ≡ replayed hear b (joined parts) .picture)
+    × (allTurns hear (atFirst b w) parts .stream .heard ≡ kept (replayed hear b (joined parts) .replay .heard))
+    × (allTurns hear (atFirst b w) parts .stream .refused ≡ kept (replayed hear b (joined parts) .replay .refused))
+    × (allTurns hear (atFirst b w) parts .stream .refusal ≡ replayed hear b (joined parts) .replay .refusal)
+    × (allTurns hear (atFirst b w) parts .stream .offset ≡ kept (replayed hear b (joined parts) .replay .offset))
