@@ -1,5 +1,7 @@
 -- Laws of reading records.
 --     found               what follows a number, where what was read of it is known
+--     headed, head-room   a record by its gap and its word, and the room after them
+--     counted             a record by its count
 --     entry-elim          what holds of every fault, and of a record whose data fit, holds of what is read
 --     records-are-whole   every record that is read is whole
 --     faults-are-placed   a fault has the offset of its byte for 16, and the input's length for 15
@@ -11,9 +13,9 @@ use mathlib.Core.List.{List}
 use mathlib.Core.Logic.{_⊎_, inl, inr}
 use Prim.Native.Nat.{ℕ, _+_, _-_, _/_, _%_, _≤_, _<_}
 use native.Mathlib.Omega.{arith}
-use lib.ListN.{length}
+use lib.ListN.{length, getD}
 use lib.Dec.{ltb, leb}
-use borrow.Author.Tests.{leb-true, leb-false, le-ltb, ltb-false}
+use borrow.Author.Tests.{leb-true, leb-false, le-leb, lt-ltb, le-ltb, ltb-false}
 use Rattle.laws.proofs.Choices.{cond-elim}
 use Rattle.laws.proofs.Testing.{not-both}
 use Rattle.recording.specs.declared.numbers.Number.{Number}
@@ -26,11 +28,27 @@ use Rattle.recording.specs.Number.{numberAt}
 use Rattle.recording.specs.Record.{after, readData, readCount, readWord, readRecord, cutOffAt, badNumberAt}
 use Rattle.recording.specs.Statements.{Whole, RecordsAreWhole, FaultsArePlaced, LeftoverIsShort}
 use Rattle.recording.specs.Window.{settled}
-use Rattle.recording.proofs.Reading.{Fits, value-at, bad-at, ends-at}
+use Rattle.recording.proofs.Reading.{Fits, number-last, value-at, bad-at, ends-at}
 use Rattle.recording.proofs.Writing.{in-range}
 
 pub found : (s : List ℕ) (rest : ℕ → ℕ → Entry) {read r n : Number} → read ≡ r → read ≡ n → after s r rest ≡ after s n rest
 found s rest e f = ap (λ (n : Number). after s n rest) (sym e ∙ f)
+
+-- where the gap and the word were read, the record is what its count gives, and after them there is room where the longest record has room
+module _ (s : List ℕ) (at gap word p next : ℕ) (first : Value gap p ≡ numberAt s gapGroups mostGap at) (second : Value word next ≡ numberAt s wordGroups mostWord p) where
+  pub headed : at < length s → readCount s gap (word / 2) (word % 2) next ≡ readRecord s at
+  unfolding readRecord
+  headed h = rw (lt-ltb at (length s) h) (found s (λ w q. readCount s gap (w / 2) (w % 2) q) refl second ∙ found s (readWord s) refl first)
+
+  pub head-room : at + longest ≤ length s → next + (countGroups + mostCount) ≤ length s
+  head-room h = omega (arith, value-at gapGroups mostGap at s (Value gap p) gap p first refl .short, value-at wordGroups mostWord p s (Value word next) word next second refl .short)
+
+-- where a count and the data after it have room, the record
+pub counted : (s : List ℕ) (gap identifier remote at count : ℕ) → at + (countGroups + mostCount) ≤ length s → count ≡ getD s at 0 → count ≤ mostCount
+    → Record gap identifier remote (at + 1) count (at + 1 + count) ≡ readCount s gap identifier remote at
+counted s gap identifier remote at count room byte few =
+    rw (le-leb count (length s - (at + 1)) (omega arith)) at
+    (found s (readData s gap identifier remote) refl (number-last countGroups mostCount at s count (omega arith) (λ e. omega arith) byte few (omega arith)))
 
 after-elim : (P : Entry → Type 0) (s : List ℕ) (left most at : ℕ) (rest : ℕ → ℕ → Entry) → (length s - at ≤ left - 1 → P (cutOffAt (length s)))
     → ((p : ℕ) → at ≤ p → p < length s → P (badNumberAt p)) → ((v next : ℕ) → numberAt s left most at ≡ Value v next → Fits left most at (length s) v next → P (rest v next))

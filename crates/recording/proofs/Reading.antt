@@ -1,6 +1,7 @@
 -- Laws of reading a number.
 --     number-end, -none, -large, -last, -long, -joined    what is found at an offset of the input, case by case
---     second-zero, -large, -last                          the same by the second byte
+--     number-two                                          a number of two groups
+--     nothing-found                                       where the quick way found none
 --     value-at, bad-at, ends-at                           a value that was read fits; a bad byte lies in the input; what is cut off is short
 -- Assumes nothing.
 use mathlib.Core.Path.{_≡_, refl, sym, ap, subst, _∙_}
@@ -68,26 +69,17 @@ module _ (left most at : ℕ) (s : List ℕ) (b : ℕ) (inside : at < length s) 
       → joined at (b - 128) r ≡ numberAt s left most at
   number-joined h l more read e = ap (joined at (b - 128)) (sym e ∙ read) ∙ number-more h l more
 
--- the cases where b says that another byte, high, follows, and it is the last
-module _ (left most at : ℕ) (s : List ℕ) (b high : ℕ) (inside : at + 1 < length s) (two : 1 < left) (byte : b ≡ getD s at 0) (second : high ≡ getD s (at + 1) 0)
-    (more : 128 ≤ b) (fits : b ≤ most) (last : high < 128) where
-  abbrev rest-most : ℕ
-  rest-most = (most - (b - 128)) / 128
+-- b says that another byte follows, and that one, high, is the last
+pub number-two : (left most at : ℕ) (s : List ℕ) (b high : ℕ) → 1 < left → at + 1 < length s → b ≡ getD s at 0 → high ≡ getD s (at + 1) 0 → 128 ≤ b → 0 < high → high < 128
+    → b - 128 + 128 * high ≤ most → Value (b - 128 + 128 * high) (at + 1 + 1) ≡ numberAt s left most at
+number-two left most at s b high two inside byte second more some last fits =
+    rw (ne-eqb high 0 (λ e. omega arith)) at
+    (number-joined left most at s b (omega arith) (λ e. omega arith) byte (omega arith) more (λ e. omega arith)
+    (number-last (left - 1) ((most - (b - 128)) / 128) (at + 1) s high inside (λ e. omega arith) second (omega arith) last) refl)
 
-  with-rest : {r : Number} → r ≡ numberAt s (left - 1) rest-most (at + 1) → joined at (b - 128) r ≡ numberAt s left most at
-  with-rest e = number-joined left most at s b (omega arith) (λ e. omega arith) byte fits more (λ e. omega arith) e refl
-
-  rest-last : high ≤ rest-most → Value high (at + 1 + 1) ≡ numberAt s (left - 1) rest-most (at + 1)
-  rest-last h = number-last (left - 1) rest-most (at + 1) s high inside (λ e. omega arith) second h last
-
-  pub second-zero : high ≡ 0 → Bad (at + 1) ≡ numberAt s left most at
-  second-zero z = rw (eq-eqb high 0 z) at (with-rest (rest-last (omega arith)))
-
-  pub second-large : most < b - 128 + 128 * high → Bad (at + 1) ≡ numberAt s left most at
-  second-large h = with-rest (number-large (left - 1) rest-most (at + 1) s high inside (λ e. omega arith) second (omega arith))
-
-  pub second-last : 0 < high → b - 128 + 128 * high ≤ most → Value (b - 128 + 128 * high) (at + 1 + 1) ≡ numberAt s left most at
-  second-last pos h = rw (ne-eqb high 0 (λ e. omega arith)) at (with-rest (rest-last (omega arith)))
+-- an offset of 0 says that the quick way found nothing: then what it found may be said to be anything
+pub nothing-found : {A : Type 0} {next : ℕ} → next ≡ 0 → 0 < next → A
+nothing-found e some = absurd (omega arith)
 
 -- a value that was read at `at`, of at most `left` groups, is at most `most` and ends by `end`
 pub record Fits (left most at end v next : ℕ) : Type 0 where

@@ -18,3 +18,6 @@ pub const MOST_REMOTE: u32 = 1;
 pub const MOST_COUNT: u64 = 8;
 
 pub const COUNT_GROUPS: u32 = 1;
+
+// So the longest record has so many bytes.
+pub const LONGEST: usize = (GAP_GROUPS + WORD_GROUPS + COUNT_GROUPS) as usize + MOST_COUNT as usize;

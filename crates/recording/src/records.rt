@@ -6,8 +6,11 @@ use crate::limits::MOST_GAP;
 use crate::limits::MOST_WORD;
 use crate::limits::WORD_GROUPS;
 use crate::numbers::Number;
-use crate::numbers::read_number;
+use crate::numbers::read_groups;
+use crate::quick::quick_head;
 ghost use mathlib.Core.Path.{_≡_};
+ghost use Prim.Native.Nat.{_<_};
+ghost use lib.ListN.{length};
 ghost use Rattle.recording.specs.Record.{cutOffAt, badNumberAt, readCount, readWord, readRecord};
 
 // What reading at an offset finds: a record, whose data are the `len` bytes from `start`, with `next` past it; the end;
@@ -52,7 +55,7 @@ fn bad_number(offset: usize) -> Entry
 fn read_count(s: &[u8], gap: u64, identifier: u32, remote: u32, at: usize) -> Entry
     ensures { λ r. ⌜ r ≡ readCount (now (s .entry)) gap identifier remote at ⌝ }
 {
-    match read_number(s, at, COUNT_GROUPS, MOST_COUNT) {
+    match read_groups(s, at, COUNT_GROUPS, MOST_COUNT) {
         Number::Value(count, start) => {
             let len = count as usize;
             if len <= s.len() - start {
@@ -77,23 +80,48 @@ fn read_count(s: &[u8], gap: u64, identifier: u32, remote: u32, at: usize) -> En
 fn read_word(s: &[u8], gap: u64, at: usize) -> Entry
     ensures { λ r. ⌜ r ≡ readWord (now (s .entry)) gap at ⌝ }
 {
-    match read_number(s, at, WORD_GROUPS, MOST_WORD) {
+    match read_groups(s, at, WORD_GROUPS, MOST_WORD) {
         Number::Value(word, next) => read_count(s, gap, (word / 2) as u32, (word % 2) as u32, next),
         Number::Ends => cut_off(s.len()),
         Number::Bad(p) => bad_number(p),
     }
 }
 
-// The record at `at`.
+// The record at `at`, every number by its groups and every end tested: the general way.
+fn read_edge(s: &[u8], at: usize) -> Entry
+    requires { ⌜ at < length (now s) ⌝ }
+    ensures { λ r. ⌜ r ≡ readRecord (now (s .entry)) at ⌝ }
+{
+    match read_groups(s, at, GAP_GROUPS, MOST_GAP) {
+        Number::Value(gap, next) => read_word(s, gap, next),
+        Number::Ends => cut_off(s.len()),
+        Number::Bad(p) => bad_number(p),
+    }
+}
+
+// The record at `at`: by the quick way where that leads to one, else by the general way.
 pub fn read_record(s: &[u8], at: usize) -> Entry
     ensures { λ r. ⌜ r ≡ readRecord (now (s .entry)) at ⌝ }
 {
     if s.len() <= at {
         return Entry::End;
     }
-    match read_number(s, at, GAP_GROUPS, MOST_GAP) {
-        Number::Value(gap, next) => read_word(s, gap, next),
-        Number::Ends => cut_off(s.len()),
-        Number::Bad(p) => bad_number(p),
+    let head = quick_head(s, at);
+    let count_at = head.next;
+    if count_at != 0 {
+        let len = s[count_at] as usize;
+        if len <= MOST_COUNT as usize {
+            let start = count_at + 1;
+            let next = start + len;
+            return Entry::Record {
+                gap: head.gap as u64,
+                identifier: head.word / 2,
+                remote: head.word % 2,
+                start,
+                len,
+                next,
+            };
+        }
     }
+    read_edge(s, at)
 }

@@ -14,7 +14,7 @@ use Rattle.recording.proofs.records.read_count.Tie as tie
 
 sub-if1 : tie.Need-sub-if1
 sub-if1 c =
-    let n = c .before .before .before .read-number in
+    let n = c .before .before .before .read-groups in
     let a = c .before .before .before .before .before .args in
     let v = c .before .count .given in
     value-at countGroups mostCount (a .at) (a .s .now) (n .result) (v .0 .0) (v .0 .1 .0) (n .ensures) (v .1) .inside
@@ -24,26 +24,26 @@ returns c =
     let a = c .before .before .before .before .before .before .args in
     let v = c .before .before .count .given .0 in
     rw (le-leb (v .0) (length (a .s .now) - v .1 .0) (omega arith)) at
-    (found (a .s .now) (readData (a .s .now) (a .gap) (a .identifier) (a .remote)) (c .before .before .count .given .1) (c .before .before .before .before .read-number .ensures))
+    (found (a .s .now) (readData (a .s .now) (a .gap) (a .identifier) (a .remote)) (c .before .before .count .given .1) (c .before .before .before .before .read-groups .ensures))
 
 returns-2 : tie.Need-returns-2
 returns-2 c =
     let a = c .before .before .before .before .before .before .before .args in
     let v = c .before .before .before .count .given .0 in
     c .cut-off .ensures ∙ (rw (lt-leb (v .0) (length (a .s .now) - v .1 .0) (omega arith)) at
-    (found (a .s .now) (readData (a .s .now) (a .gap) (a .identifier) (a .remote)) (c .before .before .before .count .given .1) (c .before .before .before .before .before .read-number .ensures)))
+    (found (a .s .now) (readData (a .s .now) (a .gap) (a .identifier) (a .remote)) (c .before .before .before .count .given .1) (c .before .before .before .before .before .read-groups .ensures)))
 
 returns-3 : tie.Need-returns-3
 returns-3 c =
     let a = c .before .before .before .before .before .args in
     c .cut-off2 .ensures
-    ∙ found (a .s .now) (readData (a .s .now) (a .gap) (a .identifier) (a .remote)) (c .before .enum-told .given .1) (c .before .before .before .read-number .ensures)
+    ∙ found (a .s .now) (readData (a .s .now) (a .gap) (a .identifier) (a .remote)) (c .before .enum-told .given .1) (c .before .before .before .read-groups .ensures)
 
 returns-4 : tie.Need-returns-4
 returns-4 c =
     let a = c .before .before .before .before .before .before .args in
     c .bad-number .ensures
-    ∙ found (a .s .now) (readData (a .s .now) (a .gap) (a .identifier) (a .remote)) (c .before .before .p .given .1) (c .before .before .before .before .read-number .ensures)
+    ∙ found (a .s .now) (readData (a .s .now) (a .gap) (a .identifier) (a .remote)) (c .before .before .p .given .1) (c .before .before .before .before .read-groups .ensures)
 
 pub read-count-spec : {M : Type 1} → statement M
 read-count-spec =

@@ -1,38 +1,40 @@
 -- `recording::records::read_record` meets its contract. Assumes nothing.
-use mathlib.Core.Path.{_∙_}
+use Prim.Native.Nat.{_+_, _/_, _%_, _≤_}
+use mathlib.Core.Path.{sym, refl, _∙_}
 use native.Mathlib.Omega.{arith}
 use borrow.Author.Needs.{needs}
-use borrow.Author.Tests.{le-ltb, lt-ltb}
-use lib.ListN.{length}
-use Rattle.recording.specs.Record.{readWord, readRecord}
-use Rattle.recording.proofs.Entries.{found}
+use lib.ListN.{length, getD}
+use Rattle.recording.specs.Limits.{mostCount, countGroups}
+use Rattle.recording.proofs.Entries.{past-end, counted}
 use Rattle.recording.proofs.records.read_record.Statement.{statement}
 use Rattle.recording.proofs.records.read_record.Tie as tie
 
 returns : tie.Need-returns
-unfolding readRecord
-returns c = let a = c .before .before .args in rw (le-ltb (a .at) (length (a .s .now)) (omega arith))
+returns c = let a = c .before .before .args in sym (past-end (a .s .now) (a .at) (omega arith))
+
+-- where the way is quick, the count and the data have room
+room : (n : tie.Then2) → n .before .quick-head .result .next + (countGroups + mostCount) ≤ length (n .before .before .before .before .args .s .now)
+room n = n .before .quick-head .ensures .0 (omega arith)
+
+shared-slice-read-len : tie.Need-shared-slice-read-len
+shared-slice-read-len c = let h = room (c .before) in search needs
+
+cast-len : tie.Need-cast-len
+cast-len c = omega (arith, c .shared-slice-known2 .given (c .before .before .quick-head .result .next))
+
+add-start : tie.Need-add-start
+add-start c = omega (arith, room (c .before .before))
+
+add-next : tie.Need-add-next
+add-next c = omega (arith, room (c .before .before))
 
 returns-2 : tie.Need-returns-2
-unfolding readRecord
 returns-2 c =
-    let a = c .before .before .before .before .before .before .before .args in
-    rw (lt-ltb (a .at) (length (a .s .now)) (omega arith))
-    (c .read-word .ensures ∙ found (a .s .now) (readWord (a .s .now)) (c .before .before .gap .given .1) (c .before .before .before .before .read-number .ensures))
-
-returns-3 : tie.Need-returns-3
-unfolding readRecord
-returns-3 c =
-    let a = c .before .before .before .before .before .before .args in
-    rw (lt-ltb (a .at) (length (a .s .now)) (omega arith))
-    (c .cut-off .ensures ∙ found (a .s .now) (readWord (a .s .now)) (c .before .enum-told .given .1) (c .before .before .before .read-number .ensures))
-
-returns-4 : tie.Need-returns-4
-unfolding readRecord
-returns-4 c =
-    let a = c .before .before .before .before .before .before .before .args in
-    rw (lt-ltb (a .at) (length (a .s .now)) (omega arith))
-    (c .bad-number .ensures ∙ found (a .s .now) (readWord (a .s .now)) (c .before .before .p .given .1) (c .before .before .before .before .read-number .ensures))
+    let n = c .before .before .before .before .before in
+    let s = n .before .before .before .before .args .s .now in
+    let q = n .before .quick-head in
+    let h = q .result in
+    counted s (h .gap) (h .word / 2) (h .word % 2) (h .next) (getD s (h .next) 0) (room n) refl (omega arith) ∙ q .ensures .1 (omega arith)
 
 pub read-record-spec : {M : Type 1} → statement M
 read-record-spec =
@@ -40,12 +42,11 @@ read-record-spec =
     (tie.spec
     returns
     (λ c κs. search needs)
+    shared-slice-read-len
+    cast-len
+    add-start
+    add-next
     (λ c. search needs)
-    (λ c κs. search needs)
-    (λ c. search needs)
-    (λ c κs. search needs)
-    (λ c. search needs)
-    (λ c κs. search needs)
     returns-2
-    returns-3
-    returns-4)
+    (λ c κs. search needs)
+    (λ c. search needs))

@@ -12,7 +12,7 @@ use Rattle.recording.proofs.records.read_word.Tie as tie
 
 cast-read-count : tie.Need-cast-read-count
 cast-read-count c =
-    let n = c .before .before .before .read-number in
+    let n = c .before .before .before .read-groups in
     let a = c .before .before .before .before .before .args in
     let v = c .before .word .given in
     omega (arith, value-at wordGroups mostWord (a .at) (a .s .now) (n .result) (v .0 .0) (v .0 .1 .0) (n .ensures) (v .1) .small)
@@ -21,19 +21,19 @@ returns : tie.Need-returns
 returns c =
     let a = c .before .before .before .before .before .before .args in
     c .read-count .ensures
-    ∙ found (a .s .now) (λ word next. readCount (a .s .now) (a .gap) (word / 2) (word % 2) next) (c .before .before .word .given .1) (c .before .before .before .before .read-number .ensures)
+    ∙ found (a .s .now) (λ word next. readCount (a .s .now) (a .gap) (word / 2) (word % 2) next) (c .before .before .word .given .1) (c .before .before .before .before .read-groups .ensures)
 
 returns-2 : tie.Need-returns-2
 returns-2 c =
     let a = c .before .before .before .before .before .args in
     c .cut-off .ensures
-    ∙ found (a .s .now) (λ word next. readCount (a .s .now) (a .gap) (word / 2) (word % 2) next) (c .before .enum-told .given .1) (c .before .before .before .read-number .ensures)
+    ∙ found (a .s .now) (λ word next. readCount (a .s .now) (a .gap) (word / 2) (word % 2) next) (c .before .enum-told .given .1) (c .before .before .before .read-groups .ensures)
 
 returns-3 : tie.Need-returns-3
 returns-3 c =
     let a = c .before .before .before .before .before .before .args in
     c .bad-number .ensures
-    ∙ found (a .s .now) (λ word next. readCount (a .s .now) (a .gap) (word / 2) (word % 2) next) (c .before .before .p .given .1) (c .before .before .before .before .read-number .ensures)
+    ∙ found (a .s .now) (λ word next. readCount (a .s .now) (a .gap) (word / 2) (word % 2) next) (c .before .before .p .given .1) (c .before .before .before .before .read-groups .ensures)
 
 pub read-word-spec : {M : Type 1} → statement M
 read-word-spec =

@@ -1,0 +1,91 @@
+// The quick way to a record: where the longest record has room no end needs a test, and nearly every gap and word has one group or two.
+// In any doubt it is not taken, and the reader of groups judges from the record's first byte on.
+use crate::limits::LONGEST;
+use crate::limits::MOST_GAP;
+use crate::limits::MOST_WORD;
+ghost use mathlib.Core.Path.{_≡_};
+ghost use Prim.Native.Nat.{ℕ, _+_, _/_, _%_, _<_, _≤_};
+ghost use lib.ListN.{length};
+ghost use Rattle.recording.specs.declared.numbers.Number.the-variants.{Value};
+ghost use Rattle.recording.specs.Limits.{mostCount, countGroups};
+ghost use Rattle.recording.specs.Number.{numberAt};
+ghost use Rattle.recording.specs.Record.{readCount, readRecord};
+
+// A number of one group or two, and the offset past it: 0 where there is no such number.
+struct Short {
+    value: u32,
+    next: usize,
+}
+
+// A record's gap and word, and the offset past them, where the count is: 0 where the quick way does not lead there.
+pub struct Head {
+    pub gap: u32,
+    pub word: u32,
+    pub next: usize,
+}
+
+fn no_number() -> Short
+    ensures { λ r. ⌜ r .next ≡ 0 ⌝ }
+{
+    Short { value: 0, next: 0 }
+}
+
+fn no_head() -> Head
+    ensures { λ r. ⌜ r .next ≡ 0 ⌝ }
+{
+    Head {
+        gap: 0,
+        word: 0,
+        next: 0,
+    }
+}
+
+// The number at `at`, of at most `most`, where it has one group or two.
+fn quick_number(s: &[u8], at: usize, most: u32) -> Short
+    requires { ⌜ at + 1 < length (now s) ⌝ }
+    requires { ⌜ 128 ≤ most ⌝ }
+    ensures { λ r. ⌜ ((left : ℕ) → 1 < left → 0 < r .next → Value (r .value) (r .next) ≡ numberAt (now (s .entry)) left most at) ⌝ }
+{
+    let b = s[at] as u32;
+    let next = at + 1;
+    if b < 128 {
+        return Short { value: b, next };
+    }
+    let low = b - 128;
+    let high = s[next] as u32;
+    if high == 0 {
+        return no_number();
+    }
+    if 128 <= high {
+        return no_number();
+    }
+    if (most - low) / 128 < high {
+        return no_number();
+    }
+    let value = low + 128 * high;
+    Short {
+        value,
+        next: next + 1,
+    }
+}
+
+// The gap and the word of the record at `at`.
+pub(crate) fn quick_head(s: &[u8], at: usize) -> Head
+    requires { ⌜ at < length (now s) ⌝ }
+    ensures { λ r. ⌜ (0 < r .next → r .next + (countGroups + mostCount) ≤ length (now (s .entry))) ⌝ }
+    ensures { λ r. ⌜ (0 < r .next → readCount (now (s .entry)) (r .gap) (r .word / 2) (r .word % 2) (r .next) ≡ readRecord (now (s .entry)) at) ⌝ }
+{
+    if s.len() - at < LONGEST {
+        return no_head();
+    }
+    let gap = quick_number(s, at, MOST_GAP as u32);
+    if gap.next == 0 {
+        return no_head();
+    }
+    let word = quick_number(s, gap.next, MOST_WORD as u32);
+    Head {
+        gap: gap.value,
+        word: word.value,
+        next: word.next,
+    }
+}
