@@ -37,8 +37,9 @@ pub fn plain_identifier(identifier: u32) -> bool
 pub fn well_formed(remote: u32, count: usize) -> bool
     ensures { λ r. ⌜ r ≡ wellFormed remote count ⌝ }
 {
-    either(
-        both(remote == 1, count == 0),
-        both(remote == 0, both(1 <= count, count <= 8)),
-    )
+    match remote {
+        0 => both(1 <= count, count <= 8),
+        1 => count == 0,
+        _ => false,
+    }
 }

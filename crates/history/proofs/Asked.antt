@@ -28,7 +28,7 @@ use Rattle.history.specs.Refinement.{knownOf, knownAt, moduleAt, stateOf
 use Rattle.history.proofs.Shows.{Shows}
 use Rattle.history.proofs.Parts.{modules-few}
 use Rattle.history.proofs.Found.{slot-none, slot-some}
-use Rattle.history.proofs.Accepted.{extents-small}
+use Rattle.picture.proofs.Fitting.{extents-small}
 use Rattle.history.proofs.Fills.{filled-over, filling-filled}
 
 -- ---- the two bytes of a place

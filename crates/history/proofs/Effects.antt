@@ -12,10 +12,9 @@ use mathlib.Core.Logic.{_≢_}
 use Rattle.laws.specs.Refusals.{noRoom}
 use Rattle.frame.specs.Rows.{noType}
 use Rattle.frame.specs.declared.messages.Command.{Command}
-use Rattle.picture.specs.declared.Run.{Run}
 use Rattle.picture.specs.declared.Outcome.the-variants.{Done}
 use Rattle.picture.specs.Layout.{size}
-use Rattle.picture.specs.Runs.{runOf, typeEntered}
+use Rattle.picture.specs.Runs.{Run, runOf, typeEntered}
 use Rattle.picture.specs.Limits.{room, depth}
 use Rattle.history.specs.Standing.{handed, entersAs, meant, read, sense, Frame, address, Meaning, refuses, names, enters, meaning, Known, typed, typeOf, gave, latest, more, listed, Judgement, refused, accepted, exchanged, judged, judgement, outcomeOf, Event, hear, back, stands, butLatest, struck, counted, standing, kept, answered}
 use Rattle.history.specs.Demand3.{doing, runBytes, Tells, Answers}

@@ -11,7 +11,7 @@ use lib.Seq.{getD-set-same, getD-set-other}
 use borrow.Author.Tests.{eqb-true, eqb-false}
 use Rattle.laws.specs.Tab.{tab}
 use Rattle.laws.proofs.Tab.{tab-ext, tab-snoc}
-use Rattle.picture.specs.declared.Run.{Run}
+use Rattle.picture.specs.Runs.{Run}
 use Rattle.picture.specs.Layout.{countAt, keptAt, nextAt, slotAt, recordSize, recordAt, entryHead, entryAt, size}
 use Rattle.picture.specs.Places.{places}
 use Rattle.picture.specs.Limits.{room, addresses}

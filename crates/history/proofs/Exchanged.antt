@@ -10,7 +10,7 @@ use lib.ListN.{getD, set, length, length-set}
 use lib.Seq.{getD-set-same, getD-set-other}
 use borrow.Author.Tests.{eqb-true, eqb-false}
 use Rattle.laws.proofs.Tab.{tab-set}
-use Rattle.picture.specs.declared.Run.{Run}
+use Rattle.picture.specs.Runs.{Run}
 use Rattle.picture.specs.Layout.{countAt, keptAt, slotAt, recordSize, recordAt, size}
 use Rattle.picture.specs.Places.{places}
 use Rattle.picture.specs.Limits.{room}

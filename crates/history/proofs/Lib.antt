@@ -15,7 +15,6 @@ pub mod Exchanged
 pub mod Undoing
 pub mod Found
 pub mod Speaks
-pub mod Accepted
 pub mod Steps
 pub mod Fills
 pub mod Asked

@@ -9,9 +9,8 @@ use lib.Dec.{ltb}
 use lib.ListN.{length, getD, set, take, length-take}
 use lib.Seq.{set-set, set-getD, getD-set-same}
 use Rattle.laws.specs.Refusals.{noRoom}
-use Rattle.picture.specs.declared.Run.{Run}
 use Rattle.picture.specs.Places.{places}
-use Rattle.picture.specs.Runs.{sayings}
+use Rattle.picture.specs.Runs.{Run, sayings}
 use Rattle.picture.specs.Limits.{room, depth}
 use Rattle.history.specs.Standing.{Frame, address, Meaning, refuses, names, enters, meaning, typeOf, unknown, latest, listed, Judgement, refused, accepted, judged, judgement, Event, hear, back, stands, butLatest, struck, counted, standing, kept, granted, answered}
 use Rattle.history.specs.Machine.{Module, Undo, same, entered, wrote, State, Step, find, slot, olds, told-by, restored, new, nobody, undo, logged, kept-as, hears, backs, step, run}

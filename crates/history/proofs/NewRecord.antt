@@ -6,7 +6,7 @@ use mathlib.Core.List.{List}
 use lib.ListN.{getD, set, length, length-set}
 use lib.Seq.{getD-set-same, getD-set-other}
 use Rattle.laws.proofs.Tab.{tab-ext, tab-same}
-use Rattle.picture.specs.declared.Run.{Run}
+use Rattle.picture.specs.Runs.{Run}
 use Rattle.picture.specs.Layout.{recordSize, recordAt, kindAt, placeAt, size}
 use Rattle.picture.specs.Places.{places}
 use Rattle.picture.specs.Limits.{room}

@@ -10,12 +10,11 @@ use Rattle.frame.specs.Reading.{reading}
 use Rattle.frame.specs.declared.messages.Message.the-variants.{TypeRequest, Tells}
 use Rattle.frame.specs.declared.reader.Reading.{Reading}
 use Rattle.frame.specs.declared.reader.Reading.the-variants as reading-of
-use Rattle.picture.specs.declared.Run.{Run}
 use Rattle.picture.specs.declared.Outcome.the-variants.{Refused}
 use Rattle.picture.specs.Limits.{room, busAddress}
 use Rattle.history.specs.Standing.{hear, back}
 use Rattle.picture.specs.Result.{Result, refusing, done}
-use Rattle.picture.specs.Runs.{noRun, runOf, typeEntered}
+use Rattle.picture.specs.Runs.{Run, noRun, runOf, typeEntered}
 use Rattle.picture.specs.Bytes.{short, modulesOf, keptOf, nextOf, before, slotOf, kindIn, toldBytes, enteredBytes, exchangedBytes, naming, entering, hearingCommand, hearingMessage, hearingReading, hearingAt, hearing, backOver, steppingBack}
 use Rattle.history.specs.Demand3.{doing, RefusedKeeps}
 

@@ -8,9 +8,8 @@ use mathlib.Core.Option.{Option, none, some}
 use lib.Dec.{eqb}
 use lib.ListN.{length, getD, set, length-replicate, getD-replicate, length-append, length-set}
 use borrow.Author.Tests.{eqb-true, eq-eqb}
-use Rattle.picture.specs.declared.Run.{Run}
 use Rattle.picture.specs.Places.{places}
-use Rattle.picture.specs.Runs.{said, sayings}
+use Rattle.picture.specs.Runs.{Run, said, sayings}
 use Rattle.history.specs.Standing.{Frame, address, Meaning, names, enters, meaning, typed, typeOf, unknown, after, gave, latest, more, listed}
 use Rattle.history.specs.Machine.{Module, blank, find, slot, kindOf, told-by, new}
 use Rattle.history.proofs.Rows.{write-length, write-at}

@@ -10,8 +10,7 @@ use lib.ListN.{getD, length, replicate, List·getD-append, getD-replicate}
 use borrow.Author.Tests.{eq-eqb, ne-eqb}
 use Rattle.laws.specs.Tab.{tab}
 use Rattle.laws.proofs.Tab.{getD-tab}
-use Rattle.picture.specs.declared.Run.{Run}
-use Rattle.picture.specs.Runs.{Saying, silent, asks, tells, sayingOf, sayingsFrom, sayings, saidFrom, said, telling, asking, bit, eight, runOf, ledBy, someLeds, allLeds, glowNumber, nameOf}
+use Rattle.picture.specs.Runs.{Run, Saying, silent, asks, tells, sayingOf, sayingsFrom, sayings, saidFrom, said, telling, asking, bit, eight, runOf, ledBy, someLeds, allLeds, glowNumber, nameOf}
 use Rattle.picture.specs.Places.{yearPlace, ledPlace, blindPlace, characterPlace, cellPlace}
 use Rattle.picture.specs.Bytes.{countOf}
 use Rattle.history.specs.Speaks.{SpeaksOf}

@@ -18,11 +18,10 @@ use Rattle.frame.specs.declared.messages.Command.{Command}
 use Rattle.frame.specs.declared.messages.Message.the-variants.{TypeRequest, Tells}
 use Rattle.frame.specs.declared.reader.Reading.{Reading}
 use Rattle.frame.specs.declared.reader.Reading.the-variants as reading-of
-use Rattle.picture.specs.declared.Run.{Run}
 use Rattle.picture.specs.declared.Outcome.the-variants.{Refused}
 use Rattle.picture.specs.Layout.{slotAt, recordAt, size}
 use Rattle.picture.specs.Places.{places}
-use Rattle.picture.specs.Runs.{sayings, noRun, runOf, typeEntered}
+use Rattle.picture.specs.Runs.{Run, sayings, noRun, runOf, typeEntered}
 use Rattle.picture.specs.Limits.{room, depth, addresses}
 use Rattle.history.specs.Standing.{Frame, address, names, enters, entersAs, meant, read, sense, meaning, exchanged, outcomeOf, hear, back}
 use Rattle.picture.specs.Result.{Result, refusing, done}
@@ -37,7 +36,7 @@ use Rattle.history.proofs.Entered.{entered-good, entered-state}
 use Rattle.history.proofs.Exchanged.{exchanged-good, exchanged-state}
 use Rattle.history.proofs.Undoing.{Undone, undone-is}
 use Rattle.history.proofs.Found.{Slot, slot-none, slot-some, unlisted, count-is, kind-none}
-use Rattle.history.proofs.Accepted.{runs-fit}
+use Rattle.picture.proofs.Fitting.{runs-fit}
 
 -- What a byte step has to meet.
 record Met (r : Result) (m : Step) : Type 0 where

@@ -9,10 +9,9 @@ use lib.ListN.{getD, set, length}
 use borrow.Author.Tests.{lt-ltb, le-leb}
 use Rattle.laws.specs.Tab.{tab}
 use Rattle.laws.proofs.Tab.{getD-tab, tab-ext, tab-set}
-use Rattle.picture.specs.declared.Run.{Run}
 use Rattle.picture.specs.Layout.{countAt, keptAt, nextAt, slotAt, recordSize, recordAt, kindAt, placeAt, entrySize, entryHead, entryAt, oldAt, size}
 use Rattle.picture.specs.Places.{places}
-use Rattle.picture.specs.Runs.{Saying, sayings, sayingsFrom}
+use Rattle.picture.specs.Runs.{Run, Saying, sayings, sayingsFrom}
 use Rattle.picture.specs.Limits.{room}
 use Rattle.history.specs.Standing.{Known, unknown}
 use Rattle.picture.specs.Bytes.{modulesOf, nextOf, written, didWrite, entryBytes, opened, countOf, saved, toldBytes, fits}

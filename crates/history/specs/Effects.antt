@@ -12,12 +12,11 @@ use Rattle.frame.specs.Reading.{reading}
 use Rattle.frame.specs.declared.messages.Command.{Command}
 use Rattle.frame.specs.declared.messages.Message.the-variants as message
 use Rattle.frame.specs.declared.reader.Reading.the-variants.{Read}
-use Rattle.picture.specs.declared.Run.{Run}
 use Rattle.picture.specs.declared.Outcome.the-variants.{Done, Refused}
 use Rattle.picture.specs.Layout.{size}
 use Rattle.picture.specs.Places.{Asked}
-use Rattle.picture.specs.Runs.{said, runOf, typeEntered}
-use Rattle.history.specs.Speaks.{heardAs}
+use Rattle.picture.specs.Runs.{Run, said, runOf, typeEntered}
+use Rattle.picture.specs.Fitting.{heardAs}
 use Rattle.picture.specs.Limits.{room}
 use Rattle.history.specs.Standing.{Frame, address, Meaning, refuses, names, enters, meaning, Known, unknown, after, typeOf, latest, listed, accepted, judgement, Event, hear, back, standing, kept}
 use Rattle.picture.specs.Questions.{typeAnswer, numberAnswer, listing, nameHeard, nameWhole, memoryRow}

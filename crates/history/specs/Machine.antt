@@ -6,9 +6,8 @@ use mathlib.Core.Option.{Option, none, some}
 use lib.Dec.{eqb, ltb}
 use lib.ListN.{length, getD, set, take, replicate}
 use Rattle.laws.specs.Refusals.{noRoom, nothingKept}
-use Rattle.picture.specs.declared.Run.{Run}
 use Rattle.picture.specs.Places.{places}
-use Rattle.picture.specs.Runs.{Saying, silent, asks, tells, sayings}
+use Rattle.picture.specs.Runs.{Run, Saying, silent, asks, tells, sayings}
 use Rattle.picture.specs.Limits.{room, depth}
 use Rattle.history.specs.Standing.{address, Meaning, refuses, names, enters, meaning, Known, unknown, told, Judgement, refused, accepted, exchanged, Event, hear, back}
 

@@ -12,11 +12,10 @@ use Rattle.frame.specs.declared.messages.Message.{Message}
 use Rattle.frame.specs.declared.messages.Message.the-variants.{TypeRequest, Tells}
 use Rattle.frame.specs.declared.reader.Reading.{Reading}
 use Rattle.frame.specs.declared.reader.Reading.the-variants.{Read, Refused}
-use Rattle.picture.specs.declared.Run.{Run}
 use Rattle.picture.specs.declared.Outcome.{Outcome}
 use Rattle.picture.specs.declared.Outcome.the-variants as outcome
 use Rattle.picture.specs.Limits.{room, depth, busAddress}
-use Rattle.picture.specs.Runs.{Saying, silent, asks, tells, said, noRun, runOf, typeEntered}
+use Rattle.picture.specs.Runs.{Run, Saying, silent, asks, tells, said, noRun, runOf, typeEntered}
 
 -- A frame as it is heard.
 pub record Frame : Type 0 where

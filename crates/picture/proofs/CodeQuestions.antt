@@ -1,33 +1,41 @@
 -- Laws of the definitions of specs/Questions.antt that the code's proofs cite.
 -- Assumes nothing.
-use Prim.Native.Nat.{ℕ, _+_, _≤_}
+use Prim.Native.Nat.{ℕ, _+_, _<_, _≤_}
 use native.Mathlib.Omega.{arith}
 use native.Mathlib.Numerals.{add-one}
 use mathlib.Core.Path.{_≡_, refl}
 use mathlib.Core.Bool.{Bool, true, false, cond}
 use mathlib.Core.List.{List}
 use lib.Dec.{eqb, ltb}
-use lib.ListN.{getD, set}
+use lib.ListN.{length, getD, set}
+use borrow.Author.Tests.{lt-ltb, le-ltb}
 use Rattle.laws.specs.Refusals.{typeNotKnown, tooShort}
 use Rattle.frame.specs.Rows.{vmb8ir, vmb1bl}
 use Rattle.picture.specs.declared.Answer.{Answer}
 use Rattle.picture.specs.declared.Answer.the-variants.{Refused}
 use Rattle.picture.specs.Limits.{room}
+use Rattle.picture.specs.Layout.{size}
 use Rattle.picture.specs.Places.{Asked, placeAsked, extent, extentOf, hasName}
-use Rattle.picture.specs.Bytes.{short, kindIn}
+use Rattle.picture.specs.Bytes.{kindIn}
 use Rattle.picture.specs.Questions.{slotAsked, heardAt, placeIn, numberIn, numberAnswer, filledTo, sumTo}
 use Rattle.picture.proofs.CodePlaces.{within-high}
 
--- a number's answer, from the slot, the type and the place that were found
+-- a number's answer: the refusal of too few bytes, ...
+pub number-short : (b : List ℕ) (a : ℕ) (q : Asked) → length b < size → Refused tooShort ≡ numberAnswer b a q
+unfolding numberAnswer
+number-short b a q h = rw (lt-ltb (length b) size h)
+
+-- ... or by the slot, the type and the place that were found
 pub number-by :
     (b : List ℕ) (a : ℕ) (q : Asked) {s k p : ℕ} {r : Answer} →
+    size ≤ length b →
     s ≡ slotAsked b a →
     k ≡ kindIn b s →
     p ≡ placeAsked k q →
-    r ≡ cond (short b) (Refused tooShort) (cond (ltb s room) (placeIn b s p) (Refused typeNotKnown)) →
+    r ≡ cond (ltb s room) (placeIn b s p) (Refused typeNotKnown) →
     r ≡ numberAnswer b a q
 unfolding numberAnswer numberIn
-number-by b a q d e f g = rw (← d, ← e, ← f) g
+number-by b a q h d e f g = rw (le-ltb (length b) size h, ← d, ← e, ← f) g
 
 pub heard-small : (b : List ℕ) (o : ℕ) → heardAt b o ≤ 1
 unfolding heardAt

@@ -13,10 +13,9 @@ use Rattle.frame.specs.declared.messages.Message.{Message}
 use Rattle.frame.specs.declared.messages.Message.the-variants.{TypeRequest, Tells}
 use Rattle.frame.specs.declared.reader.Reading.{Reading}
 use Rattle.frame.specs.declared.reader.Reading.the-variants as reading-of
-use Rattle.picture.specs.declared.Run.{Run}
 use Rattle.picture.specs.Layout.{countAt, keptAt, nextAt, headSize, slotAt, recordAt, kindAt, placeAt, entryHead, entryAt, oldAt, size}
 use Rattle.picture.specs.Places.{places}
-use Rattle.picture.specs.Runs.{Saying, silent, asks, tells, sayings, noRun, runOf, typeEntered}
+use Rattle.picture.specs.Runs.{Run, Saying, silent, asks, tells, sayings, noRun, runOf, typeEntered}
 use Rattle.picture.specs.Limits.{room, depth, busAddress}
 use Rattle.picture.specs.Result.{Result, refusing, done}
 
@@ -123,9 +122,12 @@ stepped b = set (set b keptAt (min depth (suc (keptOf b)))) nextAt (following (n
 abbrev pub countOf : Run → ℕ
 countOf r = min 8 (r .count)
 
--- the run's places as they are, into the log
+-- count places as they are, from the place start on, into the log; and those of a run
+abbrev pub savedPlaces : List ℕ → ℕ → ℕ → ℕ → List ℕ
+savedPlaces b s start count = copied (opened b didWrite s start count) (oldAt (nextOf b)) (placeAt s start) (2 * count)
+
 unfoldable pub saved : List ℕ → ℕ → Run → List ℕ
-saved b s r = copied (opened b didWrite s (r .start) (countOf r)) (oldAt (nextOf b)) (placeAt s (r .start)) (2 * countOf r)
+saved b s r = savedPlaces b s (r .start) (countOf r)
 
 -- a run heard by the module in slot s
 unfoldable pub toldBytes : List ℕ → ℕ → Run → List ℕ

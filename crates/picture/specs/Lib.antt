@@ -5,4 +5,5 @@ pub mod Runs
 pub mod Result
 pub mod Layout
 pub mod Bytes
+pub mod Fitting
 pub mod Questions

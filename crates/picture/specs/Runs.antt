@@ -6,13 +6,13 @@ use mathlib.Core.List.{List, [], _∷_}
 use lib.Dec.{eqb}
 use lib.ListN.{getD, replicate}
 use Rattle.frame.specs.Rows.{vmb8ir, vmb1bl}
-use Rattle.frame.specs.Bytes.{bits}
+use Rattle.frame.specs.Bytes.{bits, byte, dataOf, bytesOf}
+use Rattle.frame.specs.Messages.{decode}
 use Rattle.frame.specs.Fields.{blindChannels}
 use Rattle.frame.specs.declared.messages.Glow.{Glow}
 use Rattle.frame.specs.declared.messages.Glow.the-variants.{Off, On, Slow, Fast, VeryFast}
 use Rattle.frame.specs.declared.messages.Command.{Command}
 use Rattle.frame.specs.declared.messages.Command.the-variants.{TypeIr, TypeBl, Buttons, CellTold, BlockTold, CellAsked, BlockAsked, DumpAsked, CellSet, BlockSet, Errors, ErrorsAsked, NameOne, NameTwo, NameThree, NameAsked, StatusAsked, InputStatus, LedsAll, Leds, BlindStatus, BlindStop, BlindUp, BlindDown}
-use Rattle.picture.specs.declared.Run.{Run}
 use Rattle.picture.specs.Places.{yearPlace, ledPlace, blindPlace, characterPlace, cellPlace}
 
 -- what is said of a place
@@ -26,6 +26,14 @@ abbrev pub sayingOf : ℕ → ℕ → Saying
 sayingOf zero v = silent
 sayingOf (suc zero) v = tells v
 sayingOf (suc (suc n)) v = asks
+
+-- What a message says of at most eight neighbouring places, the first of which is `start`: says is 0 where nothing is said of a place, 1 where its value
+-- is told, 2 where a change is asked for, so that it becomes unknown.
+pub record Run : Type 0 where
+  pub start : ℕ
+  pub count : ℕ
+  pub says : List ℕ
+  pub values : List ℕ
 
 -- n sayings, from index i
 unfoldable pub sayingsFrom : List ℕ → List ℕ → ℕ → ℕ → List Saying
@@ -56,6 +64,10 @@ telling start count values = run start count (replicate 8 1) values
 
 abbrev pub asking : ℕ → ℕ → Run
 asking start count = run start count (replicate 8 2) (replicate 8 0)
+
+-- the build
+abbrev pub buildTold : ℕ → ℕ → Run
+buildTold year week = telling yearPlace 2 (year ∷ week ∷ replicate 6 0)
 
 -- bit i of a byte, counted from 0, and the eight values that f gives
 abbrev pub bit : ℕ → ℕ → ℕ
@@ -101,6 +113,10 @@ nameOf kind channel = suc (positionIn (channels kind) channel)
 abbrev pub characters : ℕ → ℕ → ℕ → ℕ → List ℕ → Run
 characters kind channel i count values = telling (characterPlace kind (nameOf kind channel) i) count values
 
+-- the values of six characters: bytes 3 to 8 of a frame
+abbrev pub sixOf : List ℕ → List ℕ
+sixOf s = byte 3 s ∷ byte 4 s ∷ byte 5 s ∷ byte 6 s ∷ byte 7 s ∷ byte 8 s ∷ replicate 2 0
+
 -- the table: which run a command is about, at a module of the type
 unfoldable pub runOf : ℕ → Command → Run
 runOf kind (CellTold l v) = telling (cellPlace kind (l .0)) 1 (v ∷ replicate 7 0)
@@ -117,8 +133,8 @@ runOf kind (BlindStatus n a state c d e f) = telling (blindPlace 1) 1 (state ∷
 runOf kind (BlindStop n) = asking (blindPlace 1) 1
 runOf kind (BlindUp n t) = asking (blindPlace 1) 1
 runOf kind (BlindDown n t) = asking (blindPlace 1) 1
-runOf kind (TypeIr a b c year week) = telling yearPlace 2 (year ∷ week ∷ replicate 6 0)
-runOf kind (TypeBl a year week) = telling yearPlace 2 (year ∷ week ∷ replicate 6 0)
+runOf kind (TypeIr a b c year week) = buildTold year week
+runOf kind (TypeBl a year week) = buildTold year week
 runOf kind (Buttons a b c) = noRun
 runOf kind (CellAsked l) = noRun
 runOf kind (BlockAsked l) = noRun
@@ -154,3 +170,20 @@ typeEntered (BlindStatus n a b c d e f) = 0
 typeEntered (BlindStop n) = 0
 typeEntered (BlindUp n t) = 0
 typeEntered (BlindDown n t) = 0
+
+-- the command that the data bytes of a frame are
+abbrev pub commandOf : List ℕ → Command
+commandOf s = decode (bytesOf (dataOf s))
+
+-- the commands that name cells, characters of names, LEDs, the blind; every other but the type frame names no place
+abbrev pub cellCommands : List ℕ
+cellCommands = 0xFE ∷ 0xCC ∷ 0xFC ∷ 0xCA ∷ []
+
+abbrev pub nameCommands : List ℕ
+nameCommands = 0xF0 ∷ 0xF1 ∷ 0xF2 ∷ []
+
+abbrev pub ledCommands : List ℕ
+ledCommands = 0xEB ∷ 0xF4 ∷ 0xF5 ∷ 0xF6 ∷ 0xF7 ∷ 0xF8 ∷ 0xF9 ∷ []
+
+abbrev pub blindCommands : List ℕ
+blindCommands = 0xEC ∷ 0x04 ∷ 0x05 ∷ 0x06 ∷ []

@@ -6,6 +6,10 @@ use crate::layout::place_at;
 use frame::Address;
 use laws::wide16;
 ghost use mathlib.Core.Path.{_≡_};
+ghost use Prim.Native.Nat.{_+_, _≤_};
+ghost use mathlib.Core.Bool.{cond};
+ghost use lib.Dec.{eqb};
+ghost use lib.ListN.{length};
 ghost use Rattle.picture.specs.Layout.{placeAt};
 ghost use Rattle.picture.specs.Questions.{slotAsked, valueAt, heardAt};
 
@@ -25,17 +29,20 @@ pub fn slot_asked(picture: &[u8], address: u32) -> u8
     }
 }
 
-// The value of a place, or unknown.
-pub fn value_of(picture: &[u8], slot: u8, place: u32) -> u16
+// A value that is told, or unknown.
+fn known(value: u8, told: u8) -> u16
+    ensures { λ r. ⌜ r ≡ cond (eqb told 0) 256 value ⌝ }
+{
+    if told == 0 { UNKNOWN } else { wide16(value) }
+}
+
+// The value of a place. Both bytes are read, so that a row is filled without a branch for each cell.
+pub(crate) fn value_of(picture: &[u8], slot: u8, place: u32) -> u16
+    requires { ⌜ placeAt slot place + 2 ≤ length (now picture) ⌝ }
     ensures { λ r. ⌜ r ≡ valueAt (now (picture .entry)) (placeAt slot place) ⌝ }
 {
     let at = place_at(slot, place);
-    let told = byte_at(picture, at + 1);
-    if told == 0 {
-        UNKNOWN
-    } else {
-        wide16(byte_at(picture, at))
-    }
+    known(picture[at], picture[at + 1])
 }
 
 // 1 for a place that is told, 0 for one that is not heard.

@@ -1,7 +1,7 @@
 // Bytes of a buffer, read and stored. Past its end stands 0, and nothing is stored.
 ghost use mathlib.Core.Path.{_≡_};
-ghost use Prim.Native.Nat.{min};
-ghost use lib.ListN.{getD, set};
+ghost use Prim.Native.Nat.{_+_, _≤_, min};
+ghost use lib.ListN.{length, getD, set};
 ghost use Rattle.picture.specs.Bytes.{pair};
 
 pub fn byte_at(s: &[u8], i: usize) -> u8
@@ -18,26 +18,13 @@ pub fn put_at(s: &mut [u8], i: usize, v: u8)
     }
 }
 
-// The same in a row of 16-bit numbers.
-pub fn put_number(s: &mut [u16], i: usize, v: u16)
-    ensures { λ _. ⌜ now (s .exit) ≡ set (now (s .entry)) i v ⌝ }
-{
-    if i < s.len() {
-        s[i] = v;
-    }
-}
-
 // The two bytes of a place: its value, and whether it is told.
-pub fn put_pair(s: &mut [u8], at: usize, value: u8, told: u8)
+pub(crate) fn put_pair(s: &mut [u8], at: usize, value: u8, told: u8)
+    requires { ⌜ at + 2 ≤ length (now s) ⌝ }
     ensures { λ _. ⌜ now (s .exit) ≡ pair (now (s .entry)) at value told ⌝ }
 {
-    let n = s.len();
-    if at < n {
-        s[at] = value;
-        if at + 1 < n {
-            s[at + 1] = told;
-        }
-    }
+    s[at] = value;
+    s[at + 1] = told;
 }
 
 // What a byte that steers is cut down to.

@@ -4,7 +4,6 @@ use crate::asking::ADDRESSES;
 use crate::asking::slot_asked;
 use crate::asking::value_of;
 use crate::bytes::put_at;
-use crate::bytes::put_number;
 use crate::head::kind_in;
 use crate::head::slot_of;
 use crate::layout::ROOM;
@@ -16,7 +15,12 @@ use frame::Location;
 use laws::TOO_SHORT;
 use laws::TYPE_NOT_KNOWN;
 ghost use mathlib.Core.Path.{_≡_};
+ghost use Prim.Native.Nat.{_+_, _≤_};
+ghost use lib.ListN.{length};
 ghost use Rattle.picture.specs.Limits.{addresses};
+ghost use Rattle.picture.specs.Layout.{size, placeAt};
+ghost use Rattle.picture.specs.Places.{cellPlace};
+ghost use Rattle.picture.specs.Bytes.{kindIn};
 ghost use Rattle.picture.specs.Questions.{filledTo, listedIf, listing, cellValue, memoryIn, memoryRow};
 
 fn listed_if(picture: &[u8], address: Address) -> u8
@@ -56,6 +60,7 @@ pub fn listed(picture: &[u8], out: &mut [u8]) -> Outcome
 }
 
 fn cell_value(picture: &[u8], slot: u8, location: Location) -> u16
+    requires { ⌜ placeAt slot (cellPlace (kindIn (now picture) slot) (location .0)) + 2 ≤ length (now picture) ⌝ }
     ensures { λ r. ⌜ r ≡ cellValue (now (picture .entry)) slot (location .0) ⌝ }
 {
     let kind = kind_in(picture, slot);
@@ -64,17 +69,20 @@ fn cell_value(picture: &[u8], slot: u8, location: Location) -> u16
 
 // The first n cells of a module.
 fn fill_cells(picture: &[u8], slot: u8, n: u16, out: &mut [u16])
+    requires { ⌜ placeAt slot (cellPlace (kindIn (now picture) slot) n) ≤ length (now picture) ⌝ }
+    requires { ⌜ n ≤ length (now out) ⌝ }
     ensures { λ _. ⌜ now (out .exit) ≡ filledTo (cellValue (now (picture .entry)) slot) (now (out .entry)) n ⌝ }
 {
     let mut i: u16 = 0;
     while i < n {
         let value = cell_value(picture, slot, Location(i));
-        put_number(out, i as usize, value);
+        out[i as usize] = value;
         i += 1;
     }
 }
 
 fn memory_in(picture: &[u8], slot: u8, out: &mut [u16]) -> Outcome
+    requires { ⌜ size ≤ length (now picture) ⌝ }
     ensures { λ r. ⌜ r ≡ memoryIn (now (picture .entry)) slot (now (out .entry)) .outcome ⌝ }
     ensures { λ _. ⌜ now (out .exit) ≡ memoryIn (now (picture .entry)) slot (now (out .entry)) .buffer ⌝ }
 {

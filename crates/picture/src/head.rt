@@ -11,14 +11,14 @@ use crate::layout::kind_at;
 use crate::layout::record_at;
 use crate::layout::slot_at;
 use frame::Address;
-use laws::both;
 ghost use mathlib.Core.Path.{_≡_};
+ghost use lib.Dec.{ltb};
 ghost use Rattle.picture.specs.Bytes.{modulesOf, keptOf, nextOf, believed, slotOf, kindIn};
 
 // The slot of no module, and the type of no module.
 pub const NO_SLOT: u8 = ROOM;
 
-const NO_TYPE: u8 = 0;
+pub const NO_TYPE: u8 = 0;
 
 pub fn modules_of(picture: &[u8]) -> u8
     ensures { λ r. ⌜ r ≡ modulesOf (now (picture .entry)) ⌝ }
@@ -38,12 +38,26 @@ pub fn next_of(picture: &[u8]) -> u8
     byte_at(picture, NEXT_AT) % DEPTH
 }
 
+// Whether a slot is a module's. The room is tested on its own, so that a byte of a listed slot needs no guard.
+fn is_listed(picture: &[u8], slot: u8) -> bool
+    ensures { λ r. ⌜ r ≡ ltb slot (modulesOf (now (picture .entry))) ⌝ }
+{
+    if slot < ROOM {
+        slot < byte_at(picture, COUNT_AT)
+    } else {
+        false
+    }
+}
+
 // What the table says is believed where it is a module's slot and that module has the address.
 fn believed(picture: &[u8], address: Address, slot: u8) -> bool
     ensures { λ r. ⌜ r ≡ believed (now (picture .entry)) (address .0) slot ⌝ }
 {
-    let listed = slot < modules_of(picture);
-    both(listed, byte_at(picture, record_at(slot)) == address.0)
+    if is_listed(picture, slot) {
+        byte_at(picture, record_at(slot)) == address.0
+    } else {
+        false
+    }
 }
 
 pub fn slot_of(picture: &[u8], address: Address) -> u8

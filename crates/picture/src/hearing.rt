@@ -1,7 +1,10 @@
 // Hearing a frame.
 use crate::Outcome;
-use crate::Run;
+use crate::bytes::byte_at;
 use crate::bytes::put_at;
+use crate::commands::tell_command;
+use crate::head::NO_SLOT;
+use crate::head::NO_TYPE;
 use crate::head::kind_in;
 use crate::head::modules_of;
 use crate::head::slot_of;
@@ -13,72 +16,55 @@ use crate::layout::slot_at;
 use crate::log::DID_ENTER;
 use crate::log::DID_NOTHING;
 use crate::log::open_entry;
-use crate::log::save;
 use crate::log::step_on;
 use crate::records::blank_record;
-use crate::runs::no_run;
-use crate::runs::run_of;
-use crate::runs::type_entered;
-use crate::writing::write_run;
+use crate::telling::put_build;
+use crate::telling::tell_build;
+use crate::telling::tell_none;
 use frame::Address;
-use frame::Command;
-use frame::Message;
-use frame::Reading;
+use frame::TYPE_FRAME;
+use frame::VMB1BL;
+use frame::VMB8IR;
 use laws::NO_ROOM;
 use laws::TOO_SHORT;
 use laws::wide32;
 ghost use mathlib.Core.Path.{_≡_};
-ghost use Prim.Native.Nat.{_<_};
-ghost use Rattle.picture.specs.Limits.{busAddress};
+ghost use Prim.Native.Nat.{_<_, _≤_};
+ghost use lib.ListN.{length};
+ghost use Rattle.frame.specs.Messages.{typeFrame};
+ghost use Rattle.picture.specs.Layout.{size};
+ghost use Rattle.picture.specs.Limits.{room, busAddress};
+ghost use Rattle.picture.specs.Runs.{buildTold};
 ghost use Rattle.picture.specs.Bytes.{
-  toldBytes,
+  modulesOf,
+  noSlot,
   sameBytes,
   newRecord,
   listedAt,
   enteredBytes,
   exchangedBytes,
-  naming,
   entering,
   hearingCommand,
-  hearingMessage,
-  hearingReading,
   hearingAt,
   hearing,
 };
 
-// A run heard by the module in a slot: first its places as they are go into the log.
-fn tell(picture: &mut [u8], slot: u8, run: Run)
-    ensures { λ _. ⌜ now (picture .exit) ≡ toldBytes (now (picture .entry)) slot run ⌝ }
-{
-    save(picture, slot, run);
-    write_run(picture, slot, run);
-    step_on(picture);
-}
-
 // A step with no effect.
 fn pass(picture: &mut [u8])
+    requires { ⌜ size ≤ length (now picture) ⌝ }
     ensures { λ _. ⌜ now (picture .exit) ≡ sameBytes (now (picture .entry)) ⌝ }
 {
     open_entry(picture, DID_NOTHING, 0, 0, 0);
     step_on(picture);
 }
 
-fn name_places(picture: &mut [u8], slot: u8, run: Run)
-    ensures { λ _. ⌜ now (picture .exit) ≡ naming (now (picture .entry)) slot run ⌝ }
-{
-    if slot < ROOM {
-        tell(picture, slot, run);
-    } else {
-        pass(picture);
-    }
-}
-
 // Every place unknown, then the build.
-fn new_record(picture: &mut [u8], slot: u8, address: Address, kind: u8, run: Run)
-    ensures { λ _. ⌜ now (picture .exit) ≡ newRecord (now (picture .entry)) slot (address .0) kind run ⌝ }
+fn new_record(picture: &mut [u8], slot: u8, address: Address, kind: u8, year: u8, week: u8)
+    requires { ⌜ (size ≤ length (now picture)) × (slot < room) ⌝ }
+    ensures { λ _. ⌜ now (picture .exit) ≡ newRecord (now (picture .entry)) slot (address .0) kind (buildTold year week) ⌝ }
 {
     blank_record(picture, slot, address, kind);
-    write_run(picture, slot, run);
+    put_build(picture, slot, year, week);
 }
 
 // A module more.
@@ -90,21 +76,23 @@ fn list_at(picture: &mut [u8], slot: u8, address: Address)
     put_at(picture, COUNT_AT, slot + 1);
 }
 
-fn enter(picture: &mut [u8], address: Address, kind: u8, run: Run)
-    ensures { λ _. ⌜ now (picture .exit) ≡ enteredBytes (now (picture .entry)) (address .0) kind run ⌝ }
+fn enter(picture: &mut [u8], address: Address, kind: u8, year: u8, week: u8)
+    requires { ⌜ (size ≤ length (now picture)) × (modulesOf (now picture) < room) ⌝ }
+    ensures { λ _. ⌜ now (picture .exit) ≡ enteredBytes (now (picture .entry)) (address .0) kind (buildTold year week) ⌝ }
 {
     let slot = modules_of(picture);
     open_entry(picture, DID_ENTER, 0, 0, 0);
-    new_record(picture, slot, address, kind, run);
+    new_record(picture, slot, address, kind, year, week);
     list_at(picture, slot, address);
     step_on(picture);
 }
 
 // Another module at the address: a new record, and no way back.
-fn exchange(picture: &mut [u8], slot: u8, address: Address, kind: u8, run: Run)
-    ensures { λ _. ⌜ now (picture .exit) ≡ exchangedBytes (now (picture .entry)) slot (address .0) kind run ⌝ }
+fn exchange(picture: &mut [u8], slot: u8, address: Address, kind: u8, year: u8, week: u8)
+    requires { ⌜ (size ≤ length (now picture)) × (slot < room) ⌝ }
+    ensures { λ _. ⌜ now (picture .exit) ≡ exchangedBytes (now (picture .entry)) slot (address .0) kind (buildTold year week) ⌝ }
 {
-    new_record(picture, slot, address, kind, run);
+    new_record(picture, slot, address, kind, year, week);
     put_at(picture, KEPT_AT, 0);
 }
 
@@ -115,77 +103,56 @@ fn enter_as(
     address: Address,
     kind: u8,
     entered: u8,
-    run: Run,
+    year: u8,
+    week: u8,
 ) -> Outcome
-    ensures { λ r. ⌜ r ≡ entering (now (picture .entry)) slot (address .0) kind entered run .outcome ⌝ }
-    ensures { λ _. ⌜ now (picture .exit) ≡ entering (now (picture .entry)) slot (address .0) kind entered run .buffer ⌝ }
+    requires { ⌜ size ≤ length (now picture) ⌝ }
+    ensures { λ r. ⌜ r ≡ entering (now (picture .entry)) slot (address .0) kind entered (buildTold year week) .outcome ⌝ }
+    ensures { λ _. ⌜ now (picture .exit) ≡ entering (now (picture .entry)) slot (address .0) kind entered (buildTold year week) .buffer ⌝ }
 {
     if slot < ROOM {
         if kind == entered {
-            tell(picture, slot, run);
+            tell_build(picture, slot, year, week);
             return Outcome::Done;
         }
-        exchange(picture, slot, address, entered, run);
+        exchange(picture, slot, address, entered, year, week);
         return Outcome::Done;
     }
     if modules_of(picture) < ROOM {
-        enter(picture, address, entered, run);
+        enter(picture, address, entered, year, week);
         return Outcome::Done;
     }
     Outcome::Refused(NO_ROOM)
 }
 
-fn hear_command(
-    picture: &mut [u8],
-    slot: u8,
-    address: Address,
-    kind: u8,
-    command: Command,
-) -> Outcome
-    ensures { λ r. ⌜ r ≡ hearingCommand (now (picture .entry)) slot (address .0) kind command .outcome ⌝ }
-    ensures { λ _. ⌜ now (picture .exit) ≡ hearingCommand (now (picture .entry)) slot (address .0) kind command .buffer ⌝ }
+// A type frame that was accepted.
+fn hear_type(picture: &mut [u8], slot: u8, address: Address, kind: u8, data: &[u8]) -> Outcome
+    requires { ⌜ size ≤ length (now picture) ⌝ }
+    ensures { λ r. ⌜ r ≡ hearingCommand (now (picture .entry)) slot (address .0) kind (typeFrame (now («data» .entry))) .outcome ⌝ }
+    ensures { λ _. ⌜ now (picture .exit) ≡ hearingCommand (now (picture .entry)) slot (address .0) kind (typeFrame (now («data» .entry))) .buffer ⌝ }
 {
-    let entered = type_entered(command);
-    let run = run_of(kind, command);
-    if entered == 0 {
-        name_places(picture, slot, run);
-        return Outcome::Done;
-    }
-    enter_as(picture, slot, address, kind, entered, run)
-}
-
-fn hear_message(
-    picture: &mut [u8],
-    slot: u8,
-    address: Address,
-    kind: u8,
-    message: Message,
-) -> Outcome
-    ensures { λ r. ⌜ r ≡ hearingMessage (now (picture .entry)) slot (address .0) kind message .outcome ⌝ }
-    ensures { λ _. ⌜ now (picture .exit) ≡ hearingMessage (now (picture .entry)) slot (address .0) kind message .buffer ⌝ }
-{
-    match message {
-        Message::TypeRequest => {
-            name_places(picture, slot, no_run());
-            Outcome::Done
-        }
-        Message::Tells(command) => hear_command(picture, slot, address, kind, command),
-    }
-}
-
-fn hear_reading(
-    picture: &mut [u8],
-    slot: u8,
-    address: Address,
-    kind: u8,
-    reading: Reading,
-) -> Outcome
-    ensures { λ r. ⌜ r ≡ hearingReading (now (picture .entry)) slot (address .0) kind reading .outcome ⌝ }
-    ensures { λ _. ⌜ now (picture .exit) ≡ hearingReading (now (picture .entry)) slot (address .0) kind reading .buffer ⌝ }
-{
-    match reading {
-        Reading::Refused(number) => Outcome::Refused(number),
-        Reading::Read(_, message) => hear_message(picture, slot, address, kind, message),
+    let five = byte_at(data, 4);
+    let six = byte_at(data, 5);
+    if wide32(byte_at(data, 1)) == VMB8IR {
+        enter_as(
+            picture,
+            slot,
+            address,
+            kind,
+            VMB8IR as u8,
+            six,
+            byte_at(data, 6),
+        )
+    } else {
+        enter_as(
+            picture,
+            slot,
+            address,
+            kind,
+            VMB1BL as u8,
+            byte_at(data, 3),
+            five,
+        )
     }
 }
 
@@ -195,17 +162,47 @@ fn bus_address(identifier: u32) -> Address
     Address((identifier / 2 % 256) as u8)
 }
 
-fn hear_at(picture: &mut [u8], slot: u8, identifier: u32, remote: u32, data: &[u8]) -> Outcome
+// A frame of the module in a slot.
+fn hear_listed(picture: &mut [u8], slot: u8, identifier: u32, remote: u32, data: &[u8]) -> Outcome
+    requires { ⌜ (size ≤ length (now picture)) × (slot < room) ⌝ }
     ensures { λ r. ⌜ r ≡ hearingAt (now (picture .entry)) slot identifier remote (now («data» .entry)) .outcome ⌝ }
     ensures { λ _. ⌜ now (picture .exit) ≡ hearingAt (now (picture .entry)) slot identifier remote (now («data» .entry)) .buffer ⌝ }
 {
     let kind = kind_in(picture, slot);
-    let reading = frame::read(wide32(kind), identifier, remote, data);
-    let address = bus_address(identifier);
-    hear_reading(picture, slot, address, kind, reading)
+    let number = frame::refusal(wide32(kind), identifier, remote, data);
+    if number != 0 {
+        return Outcome::Refused(number);
+    }
+    if remote == 1 {
+        tell_none(picture, slot);
+        return Outcome::Done;
+    }
+    let command = byte_at(data, 0);
+    if command == TYPE_FRAME {
+        return hear_type(picture, slot, bus_address(identifier), kind, data);
+    }
+    tell_command(picture, slot, kind, command, data);
+    Outcome::Done
 }
 
-// A frame heard: read at the type of its address, then entered, told, or only counted as a step.
+// A frame of an address with no module: a type frame enters one, a type request is a step with no effect.
+fn hear_unlisted(picture: &mut [u8], identifier: u32, remote: u32, data: &[u8]) -> Outcome
+    requires { ⌜ size ≤ length (now picture) ⌝ }
+    ensures { λ r. ⌜ r ≡ hearingAt (now (picture .entry)) noSlot identifier remote (now («data» .entry)) .outcome ⌝ }
+    ensures { λ _. ⌜ now (picture .exit) ≡ hearingAt (now (picture .entry)) noSlot identifier remote (now («data» .entry)) .buffer ⌝ }
+{
+    let number = frame::refusal_unlisted(identifier, remote, data);
+    if number != 0 {
+        return Outcome::Refused(number);
+    }
+    if remote == 1 {
+        pass(picture);
+        return Outcome::Done;
+    }
+    hear_type(picture, NO_SLOT, bus_address(identifier), NO_TYPE, data)
+}
+
+// A frame heard: judged at the type of its address, then entered, told, or only counted as a step.
 pub fn hear(picture: &mut [u8], identifier: u32, remote: u32, data: &[u8]) -> Outcome
     ensures { λ r. ⌜ r ≡ hearing (now (picture .entry)) identifier remote (now («data» .entry)) .outcome ⌝ }
     ensures { λ _. ⌜ now (picture .exit) ≡ hearing (now (picture .entry)) identifier remote (now («data» .entry)) .buffer ⌝ }
@@ -214,5 +211,9 @@ pub fn hear(picture: &mut [u8], identifier: u32, remote: u32, data: &[u8]) -> Ou
         return Outcome::Refused(TOO_SHORT);
     }
     let slot = slot_of(picture, bus_address(identifier));
-    hear_at(picture, slot, identifier, remote, data)
+    if slot < ROOM {
+        hear_listed(picture, slot, identifier, remote, data)
+    } else {
+        hear_unlisted(picture, identifier, remote, data)
+    }
 }

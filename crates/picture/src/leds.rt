@@ -5,7 +5,7 @@ ghost use Prim.Native.Nat.{_<_};
 ghost use Rattle.picture.specs.Runs.{bit, eight, glowNumber, glowBy, ledBy};
 
 // Bit i of a byte, counted from 0.
-fn bit(x: u8, i: u32) -> u8
+pub(crate) fn bit(x: u8, i: u32) -> u8
     requires { ⌜ i < 8 ⌝ }
     ensures { λ r. ⌜ r ≡ bit x i ⌝ }
 {
@@ -63,21 +63,5 @@ pub fn leds_by(on: u8, slow: u8, fast: u8) -> [u8; 8]
         led_by(on, slow, fast, 5),
         led_by(on, slow, fast, 6),
         led_by(on, slow, fast, 7),
-    ]
-}
-
-// Which of the eight a mask names.
-pub fn bits_of(mask: u8) -> [u8; 8]
-    ensures { λ r. ⌜ r ≡ eight (bit mask) ⌝ }
-{
-    [
-        bit(mask, 0),
-        bit(mask, 1),
-        bit(mask, 2),
-        bit(mask, 3),
-        bit(mask, 4),
-        bit(mask, 5),
-        bit(mask, 6),
-        bit(mask, 7),
     ]
 }

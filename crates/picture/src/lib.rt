@@ -1,6 +1,8 @@
 // The picture of up to 16 modules, in bytes that the caller lends.
 mod asking;
 mod bytes;
+mod channels;
+mod commands;
 mod filling;
 mod head;
 mod hearing;
@@ -11,9 +13,8 @@ mod names;
 mod places;
 mod questions;
 mod records;
-mod runs;
 mod stepping;
-mod writing;
+mod telling;
 
 pub use filling::listed;
 pub use filling::memory_row;
@@ -34,15 +35,6 @@ pub use stepping::fresh;
 pub use stepping::step_back;
 ghost use mathlib.Core.Path.{_≡_};
 ghost use Rattle.picture.specs.Layout.{size};
-
-// What a message says of at most eight neighbouring places, the first of which is `start`: says[i] is 0 where nothing is said, 1 where
-// values[i] is told, 2 where a change is asked for, so that the place becomes unknown.
-pub struct Run {
-    pub start: u32,
-    pub count: u8,
-    pub says: [u8; 8],
-    pub values: [u8; 8],
-}
 
 // How much a type of module has of each.
 pub struct Extent {

@@ -1,5 +1,4 @@
 // The ring of log entries, from which a step back is undone: what was done, and the bytes of the run as they were.
-use crate::Run;
 use crate::bytes::at_most;
 use crate::bytes::byte_at;
 use crate::bytes::put_at;
@@ -13,19 +12,20 @@ use crate::layout::entry_at;
 use crate::layout::old_at;
 use crate::layout::place_at;
 use crate::places::PLACES;
-use crate::writing::RUN_LENGTH;
 use laws::both;
 ghost use mathlib.Core.Path.{_≡_};
-ghost use Prim.Native.Nat.{suc, min, _+_, _*_, _^_, _<_};
-ghost use Rattle.picture.specs.Layout.{oldAt, placeAt};
-ghost use Rattle.picture.specs.Limits.{depth};
+ghost use Prim.Native.Nat.{suc, min, _+_, _*_, _^_, _<_, _≤_};
+ghost use lib.ListN.{length};
+ghost use Rattle.picture.specs.Layout.{oldAt, placeAt, size};
+ghost use Rattle.picture.specs.Places.{places};
+ghost use Rattle.picture.specs.Limits.{depth, room};
 ghost use Rattle.picture.specs.Bytes.{
   stored,
   copied,
   opened,
   stepped,
   following,
-  saved,
+  savedPlaces,
   undoneSlot,
   undoneStart,
   undoneCount,
@@ -38,21 +38,29 @@ pub const DID_NOTHING: u8 = 0;
 
 pub const DID_ENTER: u8 = 1;
 
-const DID_WRITE: u8 = 2;
+pub const DID_WRITE: u8 = 2;
 
+// The most places that a run names.
+const RUN_LENGTH: u8 = 8;
+
+// A row of eight bytes, from `at` on.
 fn store_row(picture: &mut [u8], at: usize, row: [u8; 8])
-    requires { ⌜ at < 2 ^ 40 ⌝ }
+    requires { ⌜ at + 8 ≤ length (now picture) ⌝ }
     ensures { λ _. ⌜ now (picture .exit) ≡ stored (now (picture .entry)) at row 8 ⌝ }
 {
-    let mut i: usize = 0;
-    while i < 8 {
-        put_at(picture, at + i, row[i]);
-        i += 1;
-    }
+    picture[at] = row[0];
+    picture[at + 1] = row[1];
+    picture[at + 2] = row[2];
+    picture[at + 3] = row[3];
+    picture[at + 4] = row[4];
+    picture[at + 5] = row[5];
+    picture[at + 6] = row[6];
+    picture[at + 7] = row[7];
 }
 
 // The next entry, begun.
-pub fn open_entry(picture: &mut [u8], what: u8, slot: u8, start: u32, count: u8)
+pub(crate) fn open_entry(picture: &mut [u8], what: u8, slot: u8, start: u32, count: u8)
+    requires { ⌜ size ≤ length (now picture) ⌝ }
     ensures { λ _. ⌜ now (picture .exit) ≡ opened (now (picture .entry)) what slot start count ⌝ }
 {
     let at = entry_at(next_of(picture));
@@ -97,24 +105,97 @@ fn copy(picture: &mut [u8], to: usize, from: usize, n: usize)
     }
 }
 
-// Places of a record, kept in an entry.
-fn keep_places(picture: &mut [u8], entry: u8, slot: u8, start: u32, count: u8)
-    ensures { λ _. ⌜ now (picture .exit) ≡ copied (now (picture .entry)) (oldAt entry) (placeAt slot start) (2 * count) ⌝ }
+// The two bytes of a place, and the eight of four places, copied further on. All are loaded before one is stored, so that it is one load
+// and one store.
+fn copy_two(picture: &mut [u8], to: usize, from: usize)
+    requires { ⌜ (from + 2 ≤ to) × (to + 2 ≤ length (now picture)) ⌝ }
+    ensures { λ _. ⌜ now (picture .exit) ≡ copied (now (picture .entry)) to from 2 ⌝ }
 {
-    let to = old_at(entry);
-    let from = place_at(slot, start);
-    copy(picture, to, from, 2 * (count as usize));
+    let a = picture[from];
+    let b = picture[from + 1];
+    picture[to] = a;
+    picture[to + 1] = b;
 }
 
-// The run's places as they are, into the log.
-pub fn save(picture: &mut [u8], slot: u8, run: Run)
-    ensures { λ _. ⌜ now (picture .exit) ≡ saved (now (picture .entry)) slot run ⌝ }
+fn copy_eight(picture: &mut [u8], to: usize, from: usize)
+    requires { ⌜ (from + 8 ≤ to) × (to + 8 ≤ length (now picture)) ⌝ }
+    ensures { λ _. ⌜ now (picture .exit) ≡ copied (now (picture .entry)) to from 8 ⌝ }
 {
-    let entry = next_of(picture);
-    let start = run.start;
-    let count = at_most(RUN_LENGTH, run.count);
-    open_entry(picture, DID_WRITE, slot, start, count);
-    keep_places(picture, entry, slot, start, count);
+    let a = picture[from];
+    let b = picture[from + 1];
+    let c = picture[from + 2];
+    let d = picture[from + 3];
+    let e = picture[from + 4];
+    let f = picture[from + 5];
+    let g = picture[from + 6];
+    let h = picture[from + 7];
+    picture[to] = a;
+    picture[to + 1] = b;
+    picture[to + 2] = c;
+    picture[to + 3] = d;
+    picture[to + 4] = e;
+    picture[to + 5] = f;
+    picture[to + 6] = g;
+    picture[to + 7] = h;
+}
+
+// One of a module's places as they are, into the log.
+pub(crate) fn save_one(picture: &mut [u8], slot: u8, start: u32)
+    requires { ⌜ (size ≤ length (now picture)) × (slot < room) × (start + 1 ≤ places) ⌝ }
+    ensures { λ _. ⌜ now (picture .exit) ≡ savedPlaces (now (picture .entry)) slot start 1 ⌝ }
+{
+    let to = old_at(next_of(picture));
+    let from = place_at(slot, start);
+    open_entry(picture, DID_WRITE, slot, start, 1);
+    copy_two(picture, to, from);
+}
+
+// Two of a module's places as they are, into the log.
+pub(crate) fn save_two(picture: &mut [u8], slot: u8, start: u32)
+    requires { ⌜ (size ≤ length (now picture)) × (slot < room) × (start + 2 ≤ places) ⌝ }
+    ensures { λ _. ⌜ now (picture .exit) ≡ savedPlaces (now (picture .entry)) slot start 2 ⌝ }
+{
+    let to = old_at(next_of(picture));
+    let from = place_at(slot, start);
+    open_entry(picture, DID_WRITE, slot, start, 2);
+    copy_two(picture, to, from);
+    copy_two(picture, to + 2, from + 2);
+}
+
+// Four of a module's places as they are, into the log.
+pub(crate) fn save_four(picture: &mut [u8], slot: u8, start: u32)
+    requires { ⌜ (size ≤ length (now picture)) × (slot < room) × (start + 4 ≤ places) ⌝ }
+    ensures { λ _. ⌜ now (picture .exit) ≡ savedPlaces (now (picture .entry)) slot start 4 ⌝ }
+{
+    let to = old_at(next_of(picture));
+    let from = place_at(slot, start);
+    open_entry(picture, DID_WRITE, slot, start, 4);
+    copy_eight(picture, to, from);
+}
+
+// Six of a module's places as they are, into the log.
+pub(crate) fn save_six(picture: &mut [u8], slot: u8, start: u32)
+    requires { ⌜ (size ≤ length (now picture)) × (slot < room) × (start + 6 ≤ places) ⌝ }
+    ensures { λ _. ⌜ now (picture .exit) ≡ savedPlaces (now (picture .entry)) slot start 6 ⌝ }
+{
+    let to = old_at(next_of(picture));
+    let from = place_at(slot, start);
+    open_entry(picture, DID_WRITE, slot, start, 6);
+    copy_eight(picture, to, from);
+    copy_two(picture, to + 8, from + 8);
+    copy_two(picture, to + 10, from + 10);
+}
+
+// Eight of a module's places as they are, into the log.
+pub(crate) fn save_eight(picture: &mut [u8], slot: u8, start: u32)
+    requires { ⌜ (size ≤ length (now picture)) × (slot < room) × (start + 8 ≤ places) ⌝ }
+    ensures { λ _. ⌜ now (picture .exit) ≡ savedPlaces (now (picture .entry)) slot start 8 ⌝ }
+{
+    let to = old_at(next_of(picture));
+    let from = place_at(slot, start);
+    open_entry(picture, DID_WRITE, slot, start, 8);
+    copy_eight(picture, to, from);
+    copy_eight(picture, to + 8, from + 8);
 }
 
 // Which places an entry keeps.

@@ -18,11 +18,13 @@ use laws::TYPE_NOT_KNOWN;
 use laws::wide16;
 ghost use mathlib.Core.Path.{_≡_};
 ghost use mathlib.Core.Bool.{cond};
+ghost use Prim.Native.Nat.{_≤_};
 ghost use lib.Dec.{ltb};
-ghost use Rattle.laws.specs.Refusals.{tooShort, typeNotKnown};
+ghost use lib.ListN.{length};
+ghost use Rattle.laws.specs.Refusals.{typeNotKnown};
 ghost use Rattle.picture.specs.Limits.{room};
-ghost use Rattle.picture.specs.Places.{year, week, cell, led, blind};
-ghost use Rattle.picture.specs.Bytes.{short};
+ghost use Rattle.picture.specs.Layout.{size, placeAt};
+ghost use Rattle.picture.specs.Places.{places, year, week, cell, led, blind};
 ghost use Rattle.picture.specs.Questions.{keptAnswer, typeAnswer, placeIn, numberAnswer};
 
 // The count kept.
@@ -50,6 +52,7 @@ pub fn type_of(picture: &[u8], address: u32) -> Answer
 }
 
 fn place_in(picture: &[u8], slot: u8, place: usize) -> Answer
+    requires { ⌜ placeAt slot places ≤ length (now picture) ⌝ }
     ensures { λ r. ⌜ r ≡ placeIn (now (picture .entry)) slot place ⌝ }
 {
     if place < PLACES {
@@ -59,13 +62,11 @@ fn place_in(picture: &[u8], slot: u8, place: usize) -> Answer
     }
 }
 
-// The refusals that every place has before its own: 13 for the picture, 5.
-fn number_of(picture: &[u8], slot: u8, place: usize) -> Answer
-    ensures { λ r. ⌜ r ≡ cond (short (now (picture .entry))) (Answer.Refused tooShort) (cond (ltb slot room) (placeIn (now (picture .entry)) slot place) (Answer.Refused typeNotKnown)) ⌝ }
+// The refusal that every place has before its own: 5.
+fn number_in(picture: &[u8], slot: u8, place: usize) -> Answer
+    requires { ⌜ size ≤ length (now picture) ⌝ }
+    ensures { λ r. ⌜ r ≡ cond (ltb slot room) (placeIn (now (picture .entry)) slot place) (Answer.Refused typeNotKnown) ⌝ }
 {
-    if picture.len() < SIZE {
-        return Answer::Refused(TOO_SHORT);
-    }
     if slot < ROOM {
         place_in(picture, slot, place)
     } else {
@@ -76,37 +77,52 @@ fn number_of(picture: &[u8], slot: u8, place: usize) -> Answer
 pub fn build_year(picture: &[u8], address: u32) -> Answer
     ensures { λ r. ⌜ r ≡ numberAnswer (now (picture .entry)) address year ⌝ }
 {
-    number_of(picture, slot_asked(picture, address), YEAR as usize)
+    if picture.len() < SIZE {
+        return Answer::Refused(TOO_SHORT);
+    }
+    number_in(picture, slot_asked(picture, address), YEAR as usize)
 }
 
 pub fn build_week(picture: &[u8], address: u32) -> Answer
     ensures { λ r. ⌜ r ≡ numberAnswer (now (picture .entry)) address week ⌝ }
 {
-    number_of(picture, slot_asked(picture, address), WEEK as usize)
+    if picture.len() < SIZE {
+        return Answer::Refused(TOO_SHORT);
+    }
+    number_in(picture, slot_asked(picture, address), WEEK as usize)
 }
 
 pub fn cell(picture: &[u8], address: u32, location: u32) -> Answer
     ensures { λ r. ⌜ r ≡ numberAnswer (now (picture .entry)) address (cell location) ⌝ }
 {
+    if picture.len() < SIZE {
+        return Answer::Refused(TOO_SHORT);
+    }
     let slot = slot_asked(picture, address);
     let place = cell_asked(kind_in(picture, slot), location);
-    number_of(picture, slot, place)
+    number_in(picture, slot, place)
 }
 
 // LEDs count from 1.
 pub fn led(picture: &[u8], address: u32, number: u32) -> Answer
     ensures { λ r. ⌜ r ≡ numberAnswer (now (picture .entry)) address (led number) ⌝ }
 {
+    if picture.len() < SIZE {
+        return Answer::Refused(TOO_SHORT);
+    }
     let slot = slot_asked(picture, address);
     let place = led_asked(kind_in(picture, slot), number);
-    number_of(picture, slot, place)
+    number_in(picture, slot, place)
 }
 
 // So do blinds.
 pub fn blind(picture: &[u8], address: u32, number: u32) -> Answer
     ensures { λ r. ⌜ r ≡ numberAnswer (now (picture .entry)) address (blind number) ⌝ }
 {
+    if picture.len() < SIZE {
+        return Answer::Refused(TOO_SHORT);
+    }
     let slot = slot_asked(picture, address);
     let place = blind_asked(kind_in(picture, slot), number);
-    number_of(picture, slot, place)
+    number_in(picture, slot, place)
 }

@@ -6,8 +6,10 @@ use crate::layout::place_at;
 use crate::layout::record_at;
 use frame::Address;
 ghost use mathlib.Core.Path.{_≡_};
-ghost use lib.ListN.{replicate};
-ghost use Rattle.picture.specs.Layout.{placeAt};
+ghost use Prim.Native.Nat.{_<_, _≤_};
+ghost use lib.ListN.{length, replicate};
+ghost use Rattle.picture.specs.Layout.{placeAt, size};
+ghost use Rattle.picture.specs.Limits.{room};
 ghost use Rattle.picture.specs.Places.{places};
 ghost use Rattle.picture.specs.Bytes.{blanked, blankRecord};
 
@@ -47,6 +49,7 @@ fn fresh_record() -> Record
 // A half in which nothing is told, laid into a record from the place `start` on.
 fn lay_half(picture: &mut [u8], slot: u8, start: u32, half: Half)
     requires { ⌜ (half .values ≡ replicate 256 0) × (half .told ≡ replicate 256 0) ⌝ }
+    requires { ⌜ (size ≤ length (now picture)) × (slot < room) × (start ≤ 256) ⌝ }
     ensures { λ _. ⌜ now (picture .exit) ≡ blanked (now (picture .entry)) (placeAt slot start) 256 ⌝ }
 {
     let at = place_at(slot, start);
@@ -58,6 +61,7 @@ fn lay_half(picture: &mut [u8], slot: u8, start: u32, half: Half)
 }
 
 fn lay_record(picture: &mut [u8], slot: u8)
+    requires { ⌜ (size ≤ length (now picture)) × (slot < room) ⌝ }
     ensures { λ _. ⌜ now (picture .exit) ≡ blanked (now (picture .entry)) (placeAt slot 0) places ⌝ }
 {
     let record = fresh_record();
@@ -68,7 +72,8 @@ fn lay_record(picture: &mut [u8], slot: u8)
 }
 
 // A new record in a slot.
-pub fn blank_record(picture: &mut [u8], slot: u8, address: Address, kind: u8)
+pub(crate) fn blank_record(picture: &mut [u8], slot: u8, address: Address, kind: u8)
+    requires { ⌜ (size ≤ length (now picture)) × (slot < room) ⌝ }
     ensures { λ _. ⌜ now (picture .exit) ≡ blankRecord (now (picture .entry)) slot (address .0) kind ⌝ }
 {
     put_at(picture, record_at(slot), address.0);

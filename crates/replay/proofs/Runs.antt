@@ -61,12 +61,11 @@ module _ (hear : Hearing) (s : List ℕ) where
         ∙ fuel (length s) (suc (length s)) _ _ _ next (omega (arith, w .starts, w .ends)) (omega arith)
 
     -- the same, by what hearing answered
-    pub run-on : (gap identifier remote start len next accepted : ℕ) (b′ ds : List ℕ) → readRecord s at ≡ Record gap identifier remote start len next → ds ≡ take (next - start) (drop start s)
+    pub run-on : (gap identifier remote start len next accepted : ℕ) (b′ ds : List ℕ) → readRecord s at ≡ Record gap identifier remote start len next → ds ≡ take (start + len - start) (drop start s)
         → accepted ≡ one (hear b identifier remote ds .accepted) → b′ ≡ hear b identifier remote ds .picture
         → runOn hear s b heard refused at ≡ runOn hear s b′ (heard + accepted) (refused + (1 - accepted)) next
     run-on gap identifier remote start len next accepted b′ ds e part answer left =
-        let w = records-are-whole s at gap identifier remote start len next e in
-        let n : len ≡ next - start = omega (arith, w .ends) in
+        let n : len ≡ start + len - start = omega arith in
         let same : take len (drop start s) ≡ ds = ap (λ (k : ℕ). take k (drop start s)) n ∙ sym part in
         run-heard gap identifier remote start len next e
         ∙ ap (λ (l : List ℕ). counted (runOn hear s) (hear b identifier remote l) heard refused next) same

@@ -41,10 +41,10 @@ pub fn hear_all(picture: &mut [u8], s: &[u8]) -> Replay
                 identifier,
                 remote,
                 start,
-                len: _,
+                len,
                 next,
             } => {
-                let accepted = hear_one(picture, identifier, remote, &s[start..next]);
+                let accepted = hear_one(picture, identifier, remote, &s[start..start + len]);
                 heard = heard + accepted;
                 refused = refused + (1 - accepted);
                 at = next;

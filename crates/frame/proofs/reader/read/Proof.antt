@@ -1,22 +1,18 @@
 -- `frame::reader::read` meets its contract.
 -- Assumes nothing.
-use Rattle.frame.specs.Reading.{reading}
-use borrow.Author.Tests.{eq-eqb, ne-eqb}
+use Rattle.frame.proofs.Numbers.{refused-as, read-request, read-told}
 use borrow.Author.Needs.{needs}
 use Rattle.frame.proofs.reader.read.Statement.{statement}
 use Rattle.frame.proofs.reader.read.Tie as tie
 
 returns : tie.Need-returns
-unfolding reading
-returns c = rw (← c .before .frame-refusal .ensures, ne-eqb _ _ (c .if1 .taken))
+returns c = refused-as _ (c .before .refusal .ensures) (c .if1 .taken)
 
 returns-2 : tie.Need-returns-2
-unfolding reading
-returns-2 c = rw (← c .before .before .before .before .frame-refusal .ensures, eq-eqb _ _ (c .before .before .before .if1 .left), eq-eqb _ _ (c .before .if2 .taken), ← c .before .before .address-of .ensures) (c .request-read .ensures)
+returns-2 c = read-request _ _ _ _ (c .before .before .before .refusal .ensures) (c .before .before .if1 .left) (c .if2 .taken) (c .before .address-of .ensures)
 
 returns-3 : tie.Need-returns-3
-unfolding reading
-returns-3 c = rw (← c .before .before .before .before .before .frame-refusal .ensures, eq-eqb _ _ (c .before .before .before .before .if1 .left), ne-eqb _ _ (c .before .before .if2 .left), ← c .before .before .before .address-of .ensures, ← c .before .gathered .ensures) (c .command-read .ensures)
+returns-3 c = read-told _ _ _ _ (c .before .before .before .before .refusal .ensures) (c .before .before .before .if1 .left) (c .before .if2 .left) (c .before .before .address-of .ensures) (c .command-told .ensures)
 
 pub read-spec : {M : Type 1} → statement M
 read-spec =
@@ -24,8 +20,6 @@ read-spec =
     (tie.spec
     (λ c κs. search needs)
     returns
-    (λ c κs. search needs)
-    (λ c κs. search needs)
     (λ c κs. search needs)
     (λ c κs. search needs)
     returns-2

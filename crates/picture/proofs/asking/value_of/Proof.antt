@@ -1,35 +1,14 @@
 -- `picture::asking::value_of` meets its contract. Assumes nothing.
-use Prim.Native.Nat.{_+_}
-use native.Mathlib.Omega.{arith}
-use mathlib.Core.Path.{_≡_, _∙_}
-use lib.ListN.{getD}
-use borrow.Author.Tests.{eq-eqb, ne-eqb}
 use borrow.Author.Needs.{needs}
-use Rattle.picture.specs.Layout.{placeAt}
 use Rattle.picture.specs.Questions.{valueAt}
 use Rattle.picture.proofs.asking.value_of.Statement.{statement}
 use Rattle.picture.proofs.asking.value_of.Tie as tie
 
 returns : tie.Need-returns
 unfolding valueAt
-returns c = let a = c .before .before .before .before .args in
-    let w : c .before .byte-at .result ≡ getD (a .picture .now) (placeAt (a .slot) (a .place) + 1) 0 = rw (← c .before .before .place-at .ensures) (c .before .byte-at .ensures) in
-    rw (← w, eq-eqb _ _ (c .if1 .taken)) (omega arith)
-
-returns-2 : tie.Need-returns-2
-unfolding valueAt
-returns-2 c = let a = c .before .before .before .before .before .before .args in
-    let w : c .before .before .before .byte-at .result ≡ getD (a .picture .now) (placeAt (a .slot) (a .place) + 1) 0 = rw (← c .before .before .before .before .place-at .ensures) (c .before .before .before .byte-at .ensures) in
-    rw (← w, ne-eqb _ _ (c .before .before .if1 .left), ← c .before .before .before .before .place-at .ensures) (c .wide16 .ensures ∙ c .before .byte-at2 .ensures)
+returns c = rw (← c .before .before .before .place-at .ensures) (c .known .ensures)
 
 pub value-of-spec : {M : Type 1} → statement M
 value-of-spec =
     tie.close
-    (tie.spec
-    (λ c κs. search needs)
-    (λ c. search needs)
-    (λ c κs. search needs)
-    (λ c κs. search needs)
-    (λ c κs. search needs)
-    returns
-    returns-2)
+    (tie.spec (λ c κs. search needs) (λ c. search needs) (λ c. search needs) (λ c. search needs) (λ c κs. search needs) returns)

@@ -3,7 +3,7 @@ use Prim.Native.Nat.{_≤_, _-_}
 use native.Mathlib.Omega.{arith}
 use native.Mathlib.Nat.{le-antisymm}
 use mathlib.Core.Path.{_≡_, refl, ap, _∙_}
-use lib.ListN.{length}
+use lib.ListN.{length, length-set}
 use borrow.Author.Needs.{needs}
 use Rattle.picture.specs.Questions.{filledTo, cellValue}
 use Rattle.picture.proofs.CodeQuestions.{filled-none, filled-more}
@@ -19,10 +19,13 @@ abbrev μ-loop : tie.MeasureT-loop
 loop-holds : tie.Need-loop-holds Inv-loop μ-loop
 loop-holds c = (omega arith, refl, filled-none _ _)
 
+slice-write-out : tie.Need-slice-write-out Inv-loop μ-loop
+slice-write-out c = omega arith
+
 loop-again : tie.Need-loop-again Inv-loop μ-loop
-loop-again c = let l = c .before .before .before .before .before .before .loop in
-    let a = c .before .before .before .before .before .before .before .before .before .args in
-    (omega arith, c .before .before .put-number .kept .0 ∙ l .inv .1, filled-more (cellValue (a .picture .now) (a .slot)) _ _ (l .inv .2) (c .before .before .before .before .cell-value .ensures) (c .before .before .put-number .ensures))
+loop-again c = let l = c .before .before .loop in
+    let a = c .before .before .before .before .before .args in
+    (omega arith, simp length-set (omega arith), filled-more (cellValue (a .picture .now) (a .slot)) _ _ (l .inv .2) (c .cell-value .ensures) refl)
 
 same-length : tie.Need-same-length Inv-loop μ-loop
 same-length c = c .before .loop .inv .1
@@ -39,7 +42,8 @@ fill-cells-spec =
     loop-holds
     (λ c κs. search needs)
     (λ c. search needs)
-    (λ c κs. search needs)
+    (λ c. search needs)
+    slice-write-out
     (λ c. search needs)
     (λ c. search needs)
     loop-again

@@ -25,6 +25,9 @@ returns-2 c = let a = c .before .before .before .before .before .before .args in
 cast-fill-cells : tie.Need-cast-fill-cells
 cast-fill-cells c = omega (arith, rw (← c .before .extent-of .ensures) at (few-cells (c .before .before .kind-in .result)))
 
+fill-cells-requires : tie.Need-fill-cells-requires
+fill-cells-requires c κs = let few = rw (← c .before .before .extent-of .ensures) at (few-cells (c .before .before .before .kind-in .result)) in (omega (arith, few), omega arith)
+
 returns-3 : tie.Need-returns-3
 unfolding memoryIn filling
 returns-3 c = let a = c .before .before .before .before .before .before .before .before .before .before .args in
@@ -43,6 +46,6 @@ memory-in-spec =
     (λ c. search needs)
     returns-2
     cast-fill-cells
-    (λ c κs. search needs)
+    fill-cells-requires
     (λ c. search needs)
     returns-3)

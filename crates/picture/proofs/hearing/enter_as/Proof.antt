@@ -10,7 +10,7 @@ use Rattle.picture.proofs.hearing.enter_as.Tie as tie
 returns : tie.Need-returns
 unfolding entering
 returns c = let listed = lt-ltb _ _ (c .before .before .before .before .before .if1 .taken) in
-    (rw listed, rw (listed, eq-eqb _ _ (c .before .before .before .before .if2 .taken)) (c .before .before .tell .ensures))
+    (rw listed, rw (listed, eq-eqb _ _ (c .before .before .before .before .if2 .taken)) (c .before .before .tell-build .ensures))
 
 returns-2 : tie.Need-returns-2
 unfolding entering

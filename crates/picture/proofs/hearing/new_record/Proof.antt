@@ -1,12 +1,13 @@
 -- `picture::hearing::new_record` meets its contract. Assumes nothing.
 use borrow.Author.Needs.{needs}
 use Rattle.picture.specs.Bytes.{newRecord}
+use Rattle.picture.specs.Runs.{sayings, sayingsFrom}
 use Rattle.picture.proofs.hearing.new_record.Statement.{statement}
 use Rattle.picture.proofs.hearing.new_record.Tie as tie
 
 returns : tie.Need-returns
-unfolding newRecord
-returns c = rw (← c .before .before .before .before .before .before .blank-record .ensures) (c .before .before .write-run .ensures)
+unfolding newRecord sayings sayingsFrom
+returns c = rw (← c .before .before .before .before .before .before .blank-record .ensures) (c .before .before .put-build .ensures)
 
 pub new-record-spec : {M : Type 1} → statement M
 new-record-spec = tie.close (tie.spec (λ c κs. search needs) (λ c κs. search needs) (λ c. search needs) returns)

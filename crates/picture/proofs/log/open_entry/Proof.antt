@@ -1,8 +1,13 @@
 -- `picture::log::open_entry` meets its contract. Assumes nothing.
+use native.Mathlib.Omega.{arith}
 use borrow.Author.Needs.{needs}
 use Rattle.picture.specs.Bytes.{opened}
+use Rattle.picture.proofs.CodeRuns.{next-small}
 use Rattle.picture.proofs.log.open_entry.Statement.{statement}
 use Rattle.picture.proofs.log.open_entry.Tie as tie
+
+store-row-requires : tie.Need-store-row-requires
+store-row-requires c κs = omega (arith, next-small (c .before .before .before .before .before .args .picture .now))
 
 returns : tie.Need-returns
 unfolding opened
@@ -16,6 +21,6 @@ open-entry-spec =
     (λ c κs. search needs)
     (λ c. search needs)
     (λ c. search needs)
-    (λ c κs. search needs)
+    store-row-requires
     (λ c. search needs)
     returns)

@@ -1,46 +1,45 @@
 -- `picture::log::store_row` meets its contract. Assumes nothing.
-use Prim.Native.Nat.{_≤_, _-_}
 use native.Mathlib.Omega.{arith}
-use native.Mathlib.Nat.{le-antisymm}
-use mathlib.Core.Path.{_≡_, refl, ap, _∙_}
-use lib.ListN.{length}
+use native.Mathlib.Nat.{add-zero}
+use lib.ListN.{length-set}
 use borrow.Author.Needs.{needs}
 use Rattle.picture.specs.Bytes.{stored}
-use Rattle.picture.proofs.CodeBytes.{stored-none, stored-more}
 use Rattle.picture.proofs.log.store_row.Statement.{statement}
 use Rattle.picture.proofs.log.store_row.Tie as tie
 
-abbrev Inv-loop : tie.InvT-loop
-Inv-loop picture₀ at row i₀ picture i = (i ≤ 8) × (length picture ≡ length picture₀) × (picture ≡ stored picture₀ at row i)
+same-length : tie.Need-same-length
+same-length c = simp length-set
 
-abbrev μ-loop : tie.MeasureT-loop
-μ-loop picture₀ at row i₀ picture i = 8 - i
-
-loop-holds : tie.Need-loop-holds Inv-loop μ-loop
-loop-holds c = (omega arith, refl, stored-none _ _ _)
-
-loop-again : tie.Need-loop-again Inv-loop μ-loop
-loop-again c = let l = c .before .before .before .before .before .loop in
-    (omega arith, c .before .before .put-at .kept .0 ∙ l .inv .1, stored-more _ _ _ _ (l .inv .2) (c .before .before .put-at .ensures))
-
-same-length : tie.Need-same-length Inv-loop μ-loop
-same-length c = c .before .loop .inv .1
-
-returns : tie.Need-returns Inv-loop μ-loop
-returns c = c .before .loop .inv .2 ∙ ap (stored _ _ _) (le-antisymm (c .before .loop .inv .0) (c .loop-test .left))
+returns : tie.Need-returns
+unfolding stored
+returns c = simp add-zero
 
 pub store-row-spec : {M : Type 1} → statement M
 store-row-spec =
     tie.close
     (tie.spec
-    Inv-loop
-    μ-loop
-    loop-holds
     (λ c. search needs)
     (λ c. search needs)
-    (λ c κs. search needs)
     (λ c. search needs)
     (λ c. search needs)
-    loop-again
+    (λ c. simp length-set (omega arith))
+    (λ c. search needs)
+    (λ c. search needs)
+    (λ c. simp length-set (omega arith))
+    (λ c. search needs)
+    (λ c. search needs)
+    (λ c. simp length-set (omega arith))
+    (λ c. search needs)
+    (λ c. search needs)
+    (λ c. simp length-set (omega arith))
+    (λ c. search needs)
+    (λ c. search needs)
+    (λ c. simp length-set (omega arith))
+    (λ c. search needs)
+    (λ c. search needs)
+    (λ c. simp length-set (omega arith))
+    (λ c. search needs)
+    (λ c. search needs)
+    (λ c. simp length-set (omega arith))
     same-length
     returns)

@@ -2,14 +2,17 @@
 use mathlib.Core.Path.{refl}
 use borrow.Author.Needs.{needs}
 use Rattle.picture.specs.Places.{placeAsked, week}
-use Rattle.picture.proofs.CodeQuestions.{number-by}
+use Rattle.picture.proofs.CodeQuestions.{number-short, number-by}
 use Rattle.picture.proofs.questions.build_week.Statement.{statement}
 use Rattle.picture.proofs.questions.build_week.Tie as tie
 
 returns : tie.Need-returns
+returns c = number-short _ _ week (c .if1 .taken)
+
+returns-2 : tie.Need-returns-2
 unfolding placeAsked
-returns c = number-by _ _ week (c .before .slot-asked .ensures) refl refl (c .number-of .ensures)
+returns-2 c = number-by _ _ week (c .before .before .if1 .left) (c .before .slot-asked .ensures) refl refl (c .number-in .ensures)
 
 pub build-week-spec : {M : Type 1} → statement M
 build-week-spec =
-    tie.close (tie.spec (λ c κs. search needs) (λ c. search needs) (λ c κs. search needs) returns)
+    tie.close (tie.spec returns (λ c κs. search needs) (λ c. search needs) (λ c κs. search needs) returns-2)

@@ -25,7 +25,7 @@ loop-again c = let l = c .before .before .before .before .before .before .before
     let none : (row : List ℕ) → row ≡ replicate 256 0 → getD row (l .i) 0 ≡ 0 = (λ row e. ap (λ (r : List ℕ). getD r (l .i) 0) e ∙ getD-replicate 256 (l .i) 0 0 (c .before .before .before .before .before .before .loop-test .taken)) in (
       omega arith,
       c .before .before .put-pair .kept .0 ∙ l .inv .1,
-      blanked-more _ _ _ (l .inv .2) (none _ (c .before .before .before .before .before .before .before .before .before .before .pre .0)) (none _ (c .before .before .before .before .before .before .before .before .before .before .pre .1)) (c .before .before .put-pair .ensures),
+      blanked-more _ _ _ (l .inv .2) (none _ (c .before .before .before .before .before .before .before .before .before .before .pre .0 .0)) (none _ (c .before .before .before .before .before .before .before .before .before .before .pre .0 .1)) (c .before .before .put-pair .ensures),
     )
 
 same-length : tie.Need-same-length Inv-loop μ-loop

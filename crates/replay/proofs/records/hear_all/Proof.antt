@@ -31,11 +31,8 @@ took n =
     records-are-whole (n .before .before .before .before .before .before .before .args .s .now) (n .before .before .before .before .loop .at) (f .0) (f .1 .0) (f .1 .1 .0) (f .1 .1 .1 .0) (f .1 .1 .1 .1 .0) (f .1 .1 .1 .1 .1 .0)
     (sym (n .before .before .before .read-record .ensures) ∙ g .1)
 
-sub-hear-one : tie.Need-sub-hear-one Inv-loop μ-loop
-sub-hear-one c = let w = took (c .before) in omega (arith, w .ends)
-
-part-hear-one-start : tie.Need-part-hear-one-start Inv-loop μ-loop
-part-hear-one-start c = let w = took (c .before) in search needs
+add-hear-one : tie.Need-add-hear-one Inv-loop μ-loop
+add-hear-one c = let w = took (c .before) in omega (arith, w .ends, w .inside)
 
 part-hear-one-end : tie.Need-part-hear-one-end Inv-loop μ-loop
 part-hear-one-end c = let w = took (c .before) in search needs
@@ -45,7 +42,7 @@ few : (n : tie.After-hear-one Inv-loop μ-loop) → n .hear-one .result ≤ 1
 few n =
     let f = n .before .before .before .before .identifier .given .0 in
     let s = n .before .before .before .before .before .before .before .before .before .before .args .s .now in
-    rw (n .hear-one .ensures .0) (one-or-none (heardBy (n .before .before .before .before .before .before .before .loop .picture) (f .1 .0) (f .1 .1 .0) (take (f .1 .1 .1 .1 .1 .0 - f .1 .1 .1 .0) (drop (f .1 .1 .1 .0) s)) .accepted))
+    rw (n .hear-one .ensures .0) (one-or-none (heardBy (n .before .before .before .before .before .before .before .loop .picture) (f .1 .0) (f .1 .1 .0) (take (f .1 .1 .1 .0 + f .1 .1 .1 .1 .0 - f .1 .1 .1 .0) (drop (f .1 .1 .1 .0) s)) .accepted))
 
 add-heard : tie.Need-add-heard Inv-loop μ-loop
 add-heard c = omega (arith, few (c .before .before))
@@ -96,8 +93,9 @@ hear-all-spec =
     loop-holds
     (λ c κs. search needs)
     (λ c. search needs)
-    sub-hear-one
-    part-hear-one-start
+    add-hear-one
+    (λ c. search needs)
+    (λ c. search needs)
     part-hear-one-end
     (λ c κs. search needs)
     add-heard

@@ -1,0 +1,87 @@
+-- Laws of runs of places, copied into the log and written, that the code's proofs cite.
+-- Assumes nothing.
+use Prim.Native.Nat.{ℕ, zero, suc, _+_, _*_, _≤_, _<_}
+use native.Mathlib.Omega.{arith}
+use mathlib.Core.Path.{_≡_, refl, _∙_}
+use mathlib.Core.List.{List, [], _∷_}
+use lib.ListN.{getD, take, drop}
+use lib.Seq.{getD-set-other, getD-drop, take-nil}
+use Rattle.picture.specs.Layout.{placeAt, oldAt}
+use Rattle.picture.specs.Limits.{depth}
+use Rattle.picture.specs.Runs.{Run, Saying, sayings}
+use Rattle.picture.specs.Bytes.{nextOf, putAt, written, stored, copied, didWrite, opened, stepped, countOf, savedPlaces, saved, toldBytes}
+
+pub next-small : (b : List ℕ) → nextOf b < depth
+unfolding nextOf
+next-small b = omega arith
+
+-- ---- bytes copied further on are a row that is loaded before one is stored
+stored-before : (b : List ℕ) (o : ℕ) (row : List ℕ) (n i : ℕ) → i < o → getD (stored b o row n) i 0 ≡ getD b i 0
+unfolding stored
+stored-before b o row zero i h = refl
+stored-before b o row (suc n) i h = getD-set-other (stored b o row n) (o + n) i (getD row n 0) 0 (λ e. omega arith) ∙ stored-before b o row n i h
+
+pub loaded-copied : (b : List ℕ) (to from n : ℕ) → from + n ≤ to → stored b to (drop from b) n ≡ copied b to from n
+unfolding stored copied
+loaded-copied b to from zero h = refl
+loaded-copied b to from (suc n) h =
+    rw (← loaded-copied b to from n (omega arith), stored-before b to (drop from b) n (from + n) (omega arith), getD-drop from b n 0)
+
+-- ---- bytes copied in two goes: m of them, and then n more
+copied-on : (b : List ℕ) (to from m n : ℕ) → copied (copied b to from m) (to + m) (from + m) n ≡ copied b to from (m + n)
+unfolding copied
+copied-on b to from m zero = let e : m + 0 ≡ m = omega arith in rw e
+copied-on b to from m (suc n) =
+    let e : m + suc n ≡ suc (m + n) = omega arith in
+    let p : to + m + n ≡ to + (m + n) = omega arith in
+    let q : from + m + n ≡ from + (m + n) = omega arith in
+    rw (e, p, q, copied-on b to from m n)
+
+pub copied-also :
+    (b : List ℕ) (to from m n : ℕ) {x y : List ℕ} →
+    x ≡ copied b to from m →
+    y ≡ copied x (to + m) (from + m) n →
+    y ≡ copied b to from (m + n)
+copied-also b to from m n p q = q ∙ rw p (copied-on b to from m n)
+
+-- ---- places saved, from what the calls found and did
+pub saved-by :
+    (b : List ℕ) (s start count : ℕ) {e to from : ℕ} {x y : List ℕ} →
+    e ≡ nextOf b →
+    to ≡ oldAt e →
+    from ≡ placeAt s start →
+    x ≡ opened b didWrite s start count →
+    y ≡ copied x to from (2 * count) →
+    y ≡ savedPlaces b s start count
+saved-by b s start count d t f p q = rw (← d, ← t, ← f, ← p) q
+
+-- ---- places written in two goes: the first m of a row of sayings, and then n more
+written-on : (b : List ℕ) (o : ℕ) (row : List Saying) (m n : ℕ) → written (written b o (take m row)) (o + 2 * m) (take n (drop m row)) ≡ written b o (take (m + n) row)
+unfolding written
+written-on b o row zero n =
+    let e : o + 2 * 0 ≡ o = omega arith in
+    let p : 0 + n ≡ n = omega arith in
+    rw (e, p)
+written-on b o [] (suc m) n = rw (take-nil n, take-nil (suc m + n))
+written-on b o (x ∷ row) (suc m) n =
+    let e : o + 2 * suc m ≡ o + 2 + 2 * m = omega arith in
+    let p : suc m + n ≡ suc (m + n) = omega arith in
+    rw (e, p, written-on (putAt b o x) (o + 2) row m n)
+
+pub written-also :
+    (b : List ℕ) (o : ℕ) (row : List Saying) (m n : ℕ) {x y : List ℕ} →
+    x ≡ written b o (take m row) →
+    y ≡ written x (o + 2 * m) (take n (drop m row)) →
+    y ≡ written b o (take (m + n) row)
+written-also b o row m n p q = q ∙ rw p (written-on b o row m n)
+
+-- ---- a run told, from what the calls did
+pub told-by :
+    (b : List ℕ) (s : ℕ) (r : Run) {o : ℕ} {x y z : List ℕ} →
+    x ≡ savedPlaces b s (r .start) (countOf r) →
+    o ≡ placeAt s (r .start) →
+    y ≡ written x o (sayings r) →
+    z ≡ stepped y →
+    z ≡ toldBytes b s r
+unfolding toldBytes saved
+told-by b s r p e q t = t ∙ rw (← p, ← e, ← q)

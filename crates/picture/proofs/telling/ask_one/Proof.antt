@@ -1,0 +1,22 @@
+-- `picture::telling::ask_one` meets its contract. Assumes nothing.
+use borrow.Author.Needs.{needs}
+use Rattle.picture.specs.Bytes.{putAt, written}
+use Rattle.picture.specs.Runs.{sayings, sayingsFrom}
+use Rattle.picture.proofs.CodeRuns.{told-by}
+use Rattle.picture.proofs.telling.ask_one.Statement.{statement}
+use Rattle.picture.proofs.telling.ask_one.Tie as tie
+
+returns : tie.Need-returns
+unfolding written putAt sayings sayingsFrom
+returns c = told-by _ _ _ (c .before .before .before .before .before .before .before .before .before .before .before .save-one .ensures) (c .before .before .before .before .before .before .before .place-at .ensures) (c .before .before .before .before .before .before .put-pair .ensures) (c .before .before .step-on .ensures)
+
+pub ask-one-spec : {M : Type 1} → statement M
+ask-one-spec =
+    tie.close
+    (tie.spec
+    (λ c κs. search needs)
+    (λ c κs. search needs)
+    (λ c κs. search needs)
+    (λ c κs. search needs)
+    (λ c. search needs)
+    returns)
