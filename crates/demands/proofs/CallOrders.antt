@@ -1,0 +1,156 @@
+-- The orders of a record put into a buffer, and of the calls from C. Assumes nothing.
+use Prim.Native.Nat.{ℕ, _+_, _*_, _%_, _<_}
+use native.Mathlib.Omega.{arith}
+use mathlib.Core.Path.{_≡_, refl, ap}
+use mathlib.Core.Logic.{_≢_}
+use mathlib.Core.List.{List, [], _∷_, _++_}
+use mathlib.Core.Bool.{cond}
+use lib.Dec.{ltb, leb}
+use lib.ListN.{length}
+use lib.Seq.{sets}
+use Rattle.laws.specs.Refusals.{typeNotKnown, tooShort, badNumber}
+use Rattle.laws.specs.Copies.{copiedIn}
+use Rattle.frame.specs.Reading.{reading}
+use Rattle.frame.specs.Writing.{writing}
+use Rattle.frame.specs.declared.reader.Reading.{Reading}
+use Rattle.frame.specs.declared.reader.Reading.the-variants as reader
+use Rattle.frame.specs.declared.writer.Writing.{Writing}
+use Rattle.frame.specs.declared.writer.Writing.the-variants as writer
+use Rattle.picture.specs.declared.Outcome.{Outcome}
+use Rattle.picture.specs.declared.Outcome.the-variants as outcome
+use Rattle.picture.specs.declared.Answer.{Answer}
+use Rattle.picture.specs.declared.Answer.the-variants as answer
+use Rattle.picture.specs.Limits.{room}
+use Rattle.picture.specs.Places.{extentOf}
+use Rattle.picture.specs.Bytes.{short}
+use Rattle.picture.specs.Questions.{slotAsked, typeIn, typeAnswer}
+use Rattle.recording.specs.declared.writes.Put.{Put}
+use Rattle.recording.specs.declared.writes.Put.the-variants as put
+use Rattle.recording.specs.Write.{inRange, recordBytes, putCase, placed, putAnswer, putBytes}
+use Rattle.recording.proofs.Entries.{records-are-whole, faults-are-placed}
+use Rattle.recording.proofs.Windows.{window-settles}
+use Rattle.velbus.specs.declared.parts.Held.{Held}
+use Rattle.velbus.specs.declared.parts.Held.the-variants.{Holds, Nothing}
+use Rattle.velbus.specs.Words.{refusedWord, roomWord, outcomeWord, answerWord}
+use Rattle.velbus.specs.Recordings.{putWord}
+use Rattle.velbus.specs.Parts.{partsOf}
+use Rattle.velbus.specs.Layout.{messageSize, laidBytes, heldIn}
+use Rattle.velbus.specs.Frames.{frameSize, frameBytes, readWord, readInto, writtenWord, writtenInto, heldWord, heldInto, writeWord, writeInto}
+use Rattle.velbus.specs.Rows.{valueOf, cellNumber, rowTo, typedWord, typedRow, rowWord, rowInto}
+use Rattle.demands.specs.Order.{Test, _or_, Verdict, answers, refuses, verdict, readerOrder, writerOrder, kindAsked, rowTest, cellsAsked, memoryBytesOrder, putOrder, heldOrder, writeOrder}
+use Rattle.demands.specs.Demand1.{ofReading, ofWriting, ofOutcome, ofAnswer, ofPut, values, wordOf, Decided, Word, Recordings, Words}
+use Rattle.demands.proofs.Orders.{answers-refuses, by-test, by-fault, choice-test, choice-fault, answered-then, refused-then}
+use Rattle.demands.proofs.FrameOrders.{reads, writes}
+
+-- ---- records
+module _ (b : List ℕ) (at gap identifier remote : ℕ) (ds : List ℕ) where
+  abbrev bytes : List ℕ
+  bytes = recordBytes gap identifier remote ds
+
+  -- of whatever is given for the answer
+  puts : {B : Type 0} (says : Verdict → B) (of : Put → B) → ((n : ℕ) → of (put.Refused n) ≡ says (refuses n)) → of (put.Wrote (length bytes)) ≡ says answers
+      → Decided says (putOrder b at gap identifier remote ds) b (of (putAnswer b at gap identifier remote ds)) (putBytes b at gap identifier remote ds)
+  unfolding putAnswer putBytes
+  puts says of same wrote =
+      by-test says b badNumber _
+      (λ c. of (putCase c (length b) at bytes (put.Refused badNumber) (put.Refused tooShort) (put.Wrote (length bytes))))
+      (λ c. putCase c (length b) at bytes b b (placed b at bytes)) (inRange gap identifier remote (length ds))
+      (by-test says b tooShort []
+      (λ c. of (cond c (put.Wrote (length bytes)) (put.Refused tooShort))) (λ c. cond c (placed b at bytes) b) (leb (at + length bytes) (length b))
+      (record { decides = wrote; keeps = λ n e. answers-refuses e }) (same tooShort) refl)
+      (same badNumber) refl
+
+pub recordings : Recordings
+recordings =
+    record {
+      put-record = λ b at gap identifier remote ds. puts b at gap identifier remote ds (λ v. v) ofPut (λ n. refl) refl;
+      whole = records-are-whole;
+      placed = faults-are-placed;
+      settles = window-settles;
+    }
+
+-- ---- words
+module _ (out laid : List ℕ) where
+  laid-is : copiedIn out 0 laid ≡ cond (leb (length laid) (length out)) (sets out 0 laid) out
+  unfolding copiedIn
+  laid-is = ap (λ (n : ℕ). cond (leb n (length out)) (sets out 0 laid) out) (omega arith)
+
+  -- bytes laid into a buffer: 13 where they have no room
+  lays : Word (length laid) (leb (length laid) (length out) or tooShort ∷ []) out (roomWord (length out) (length laid)) (copiedIn out 0 laid)
+  lays =
+      rw laid-is
+      (by-test (λ v. wordOf v (length laid)) out tooShort [] (λ c. cond c (length laid) (refusedWord tooShort)) (λ c. cond c (sets out 0 laid) out)
+      (leb (length laid) (length out)) (record { decides = refl; keeps = λ n e. answers-refuses e }) refl refl)
+
+module _ (ts : List Test) (out : List ℕ) where
+  abbrev space : ℕ → List Test
+  space size = leb size (length out) or tooShort ∷ []
+
+  read-then : (r : Reading) → ofReading r ≡ verdict ts → Word messageSize (ts ++ space messageSize) out (readWord r (length out)) (readInto r out)
+  unfolding laidBytes
+  read-then (reader.Read a m) e = answered-then (λ v. wordOf v messageSize) out ts (space messageSize) _ _ e (lays out (laidBytes (partsOf a m)))
+  read-then (reader.Refused n) e = refused-then (λ v. wordOf v messageSize) out ts (space messageSize) _ _ n e refl refl
+
+  written-then : (w : Writing) → ofWriting w ≡ verdict ts → Word frameSize (ts ++ space frameSize) out (writtenWord w (length out)) (writtenInto w out)
+  written-then (writer.Written f) e = answered-then (λ v. wordOf v frameSize) out ts (space frameSize) _ _ e (lays out (frameBytes f))
+  written-then (writer.Refused n) e = refused-then (λ v. wordOf v frameSize) out ts (space frameSize) _ _ n e refl refl
+
+module _ (kind : ℕ) (out : List ℕ) where
+  held-order : (x : Held) → Word frameSize (heldOrder kind x (length out)) out (heldWord kind x (length out)) (heldInto kind x out)
+  held-order (Holds a m) = written-then (writerOrder kind m) out (writing kind a m) (writes kind a m)
+  held-order Nothing = record { decides = refl; keeps = λ _ _. refl }
+
+  write-order : (message : List ℕ) → Word frameSize (writeOrder kind message (length out)) out (writeWord kind message (length out)) (writeInto kind message out)
+  unfolding writeWord writeInto
+  write-order message =
+      by-fault (λ v. wordOf v frameSize) out tooShort (heldOrder kind (heldIn message) (length out))
+      (λ c. cond c (refusedWord tooShort) (heldWord kind (heldIn message) (length out))) (λ c. cond c out (heldInto kind (heldIn message) out))
+      (ltb (length message) messageSize) (held-order (heldIn message)) refl refl
+
+-- the memory row, by the question on the type
+module _ (b : List ℕ) (a : ℕ) (out : List ℕ) where
+  abbrev given : Answer → ℕ
+  given x = rowWord x (length out)
+
+  abbrev filled : Answer → List ℕ
+  filled x = rowInto b a x out
+
+  typed-order : (kind : ℕ) → Word 0 (rowTest (2 * extentOf kind .cells) out ∷ []) out (typedWord kind (length out)) (typedRow b a kind out)
+  unfolding typedWord typedRow
+  typed-order kind =
+      by-test (λ v. wordOf v 0) out tooShort [] (λ c. cond c 0 (refusedWord tooShort)) (λ c. cond c (rowTo (cellNumber b a) out (extentOf kind .cells)) out)
+      (leb (2 * extentOf kind .cells) (length out)) (record { decides = refl; keeps = λ n e. answers-refuses e }) refl refl
+
+  row-order : Word 0 (memoryBytesOrder b a out) out (given (typeAnswer b a)) (filled (typeAnswer b a))
+  unfolding typeAnswer
+  row-order =
+      choice-fault (λ v. wordOf v 0) out given filled tooShort (ltb (slotAsked b a) room or typeNotKnown ∷ rowTest (2 * cellsAsked b a) out ∷ [])
+      (typeIn b (slotAsked b a)) (answer.Refused tooShort) (short b)
+      (choice-test (λ v. wordOf v 0) out given filled typeNotKnown (rowTest (2 * cellsAsked b a) out ∷ [])
+      (answer.Value (kindAsked b a)) (answer.Refused typeNotKnown) (ltb (slotAsked b a) room) (typed-order (kindAsked b a)) refl refl)
+      refl refl
+
+apart : (value n : ℕ) → value < values → 0 < n → value ≢ refusedWord n
+apart value n h k e = omega arith
+
+outcome-word : (o : Outcome) → outcomeWord o ≡ wordOf (ofOutcome o) 0
+outcome-word outcome.Done = refl
+outcome-word (outcome.Refused n) = refl
+
+answer-word : (x : Answer) → answerWord x ≡ wordOf (ofAnswer x) (valueOf x)
+answer-word (answer.Value v) = refl
+answer-word (answer.Refused n) = refl
+
+pub words : Words
+words =
+    record {
+      apart = apart;
+      of-outcome = outcome-word;
+      of-answer = answer-word;
+      put-record = λ b at gap identifier remote ds.
+          puts b at gap identifier remote ds (λ v. wordOf v (length (recordBytes gap identifier remote ds) % values)) putWord (λ n. refl) refl;
+      read = λ kind identifier remote s out.
+          read-then (readerOrder kind identifier remote s) out (reading kind identifier remote s) (reads kind identifier remote s);
+      write = λ kind message out. write-order kind out message;
+      memory-row = row-order;
+    }

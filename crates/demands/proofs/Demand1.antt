@@ -1,0 +1,10 @@
+-- Demand 1, as specs/Demand1.antt states it. Assumes nothing.
+use Rattle.demands.specs.Demand1.{Demand1}
+use Rattle.demands.proofs.FrameOrders.{reads, writes}
+use Rattle.demands.proofs.PictureOrders.{pictures}
+use Rattle.demands.proofs.QuestionOrders.{questions}
+use Rattle.demands.proofs.CallOrders.{recordings, words}
+
+pub demand-1 : Demand1
+demand-1 =
+    record { frames = record { read = reads; write = writes }; pictures = pictures; questions = questions; recordings = recordings; words = words }

@@ -1,0 +1,47 @@
+-- Demand 2, as specs/Demand2.antt states it. Assumes nothing.
+use Prim.Native.Nat.{ℕ, _<_}
+use mathlib.Core.Path.{_≡_, refl, sym, _∙_}
+use Rattle.frame.specs.Writing.{writing}
+use Rattle.frame.specs.declared.identifiers.Address.{Address}
+use Rattle.frame.specs.declared.messages.Message.{Message}
+use Rattle.frame.specs.declared.writer.Writing.{Writing}
+use Rattle.frame.specs.declared.writer.Writing.the-variants.{Written, Refused}
+use Rattle.frame.proofs.Accepted.{every-frame, every-request}
+use Rattle.frame.proofs.RoundTrip.{read-then-written, written-then-read}
+use Rattle.picture.specs.Limits.{addresses}
+use Rattle.history.proofs.Speaks.{speaks-of}
+use Rattle.picture.proofs.Fitting.{runs-lie, runs-fit}
+use Rattle.history.proofs.Effects.{effects, hears-command, hears-entry, hears-exchange}
+use Rattle.velbus.proofs.Held.{laid-is-held}
+use Rattle.velbus.proofs.Again.{read-then-written-again}
+use Rattle.demands.specs.Order.{answers}
+use Rattle.demands.specs.Demand1.{ofWriting}
+use Rattle.demands.specs.Demand2.{ReadsBack, LegalIsWritten, Demand2}
+use Rattle.demands.proofs.Orders.{answers-refuses}
+use Rattle.demands.proofs.FrameOrders.{writes}
+
+written-back : (kind : ℕ) (a : Address) (m : Message) → a .0 < addresses → (w : Writing) → writing kind a m ≡ w → ofWriting w ≡ answers → ReadsBack kind a m
+written-back kind a m h (Written f) e q = record { frame = f; written = e; read = written-then-read kind a m f h e }
+written-back kind a m h (Refused n) e q = answers-refuses (sym q)
+
+legal-is-written : LegalIsWritten
+legal-is-written kind a m h e = written-back kind a m h (writing kind a m) refl (writes kind a m ∙ e)
+
+pub demand-2 : Demand2
+demand-2 =
+    record {
+      every-frame = every-frame;
+      every-request = every-request;
+      read-then-written = read-then-written;
+      read-then-written-again = read-then-written-again;
+      legal-is-written = legal-is-written;
+      written-then-read = written-then-read;
+      laid-is-held = laid-is-held;
+      speaks-of = speaks-of;
+      runs-lie = runs-lie;
+      runs-fit = runs-fit;
+      effects = effects;
+      hears-command = hears-command;
+      hears-entry = hears-entry;
+      hears-exchange = hears-exchange;
+    }

@@ -1,0 +1,10 @@
+-- Read in this order: the laws of an order of refusals, each call's order, the demands, the edges.
+pub mod Orders
+pub mod FrameOrders
+pub mod PictureOrders
+pub mod QuestionOrders
+pub mod CallOrders
+pub mod Demand1
+pub mod Demand2
+pub mod Demand3
+pub mod Edges

@@ -1,0 +1,135 @@
+-- Demand 1: any identifier, remote flag, data, recording or question is given an answer or the one refusal number that the rules give; a refused
+-- call alters nothing that was handed over. The proofs are proofs/FrameOrders.antt, PictureOrders.antt, QuestionOrders.antt, CallOrders.antt and, of the
+-- whole, Demand1.antt.
+use Prim.Native.Nat.{ℕ, _%_, _<_}
+use mathlib.Core.Path.{_≡_}
+use mathlib.Core.Logic.{_≢_}
+use mathlib.Core.List.{List, [], _∷_}
+use lib.ListN.{length}
+use Rattle.frame.specs.Reading.{reading}
+use Rattle.frame.specs.Writing.{writing}
+use Rattle.frame.specs.declared.identifiers.Address.{Address}
+use Rattle.frame.specs.declared.messages.Message.{Message}
+use Rattle.frame.specs.declared.reader.Reading.{Reading}
+use Rattle.frame.specs.declared.reader.Reading.the-variants as reader
+use Rattle.frame.specs.declared.writer.Writing.{Writing}
+use Rattle.frame.specs.declared.writer.Writing.the-variants as writer
+use Rattle.picture.specs.declared.Outcome.{Outcome}
+use Rattle.picture.specs.declared.Outcome.the-variants as outcome
+use Rattle.picture.specs.declared.Answer.{Answer}
+use Rattle.picture.specs.declared.Answer.the-variants as answer
+use Rattle.picture.specs.Places.{Asked}
+use Rattle.picture.specs.Result.{Result}
+use Rattle.picture.specs.Bytes.{freshening, hearing, steppingBack}
+use Rattle.picture.specs.Questions.{keptAnswer, typeAnswer, numberAnswer, listing, nameHeard, nameWhole, memoryRow}
+use Rattle.recording.specs.declared.writes.Put.{Put}
+use Rattle.recording.specs.declared.writes.Put.the-variants as put
+use Rattle.recording.specs.Write.{recordBytes, putAnswer, putBytes}
+use Rattle.recording.specs.Statements.{RecordsAreWhole, FaultsArePlaced, WindowSettles}
+use Rattle.velbus.specs.Words.{refusedWord, outcomeWord, answerWord}
+use Rattle.velbus.specs.Recordings.{putWord}
+use Rattle.velbus.specs.Layout.{messageSize}
+use Rattle.velbus.specs.Frames.{frameSize, readWord, readInto, writeWord, writeInto}
+use Rattle.velbus.specs.Rows.{valueOf, rowWord, rowInto}
+use Rattle.demands.specs.Order.{Test, Verdict, answers, refuses, verdict, readerOrder, writerOrder, pictureTest, hearingOrder, backOrder, moduleOrder, listedOrder, numberOrder, nameOrder, wholeOrder, memoryOrder, memoryBytesOrder, putOrder, readOrder, writeOrder}
+
+-- ---- what each kind of answer comes to
+abbrev pub ofReading : Reading → Verdict
+ofReading (reader.Read a m) = answers
+ofReading (reader.Refused n) = refuses n
+
+abbrev pub ofWriting : Writing → Verdict
+ofWriting (writer.Written f) = answers
+ofWriting (writer.Refused n) = refuses n
+
+abbrev pub ofOutcome : Outcome → Verdict
+ofOutcome outcome.Done = answers
+ofOutcome (outcome.Refused n) = refuses n
+
+abbrev pub ofAnswer : Answer → Verdict
+ofAnswer (answer.Value v) = answers
+ofAnswer (answer.Refused n) = refuses n
+
+abbrev pub ofPut : Put → Verdict
+ofPut (put.Wrote n) = answers
+ofPut (put.Refused n) = refuses n
+
+-- and as the word that C is given: a value, of which there are so many, or the refusal
+abbrev pub values : ℕ
+values = 65536
+
+abbrev pub wordOf : Verdict → ℕ → ℕ
+wordOf answers value = value
+wordOf (refuses n) value = refusedWord n
+
+-- ---- calls that are lent a buffer
+-- what is given is what the verdict of the call's tests says, and a refusal leaves the buffer as it was
+pub record Decided {B : Type 0} (says : Verdict → B) (tests : List Test) (before : List ℕ) (given : B) (after : List ℕ) : Type 0 where
+  pub decides : given ≡ says (verdict tests)
+  pub keeps : (n : ℕ) → verdict tests ≡ refuses n → after ≡ before
+
+-- a call that gives the verdict itself, and one that gives C its word
+abbrev pub Verdicts : List Test → List ℕ → Verdict → List ℕ → Type 0
+Verdicts tests before given after = Decided (λ v. v) tests before given after
+
+abbrev pub Call : List Test → List ℕ → Result → Type 0
+Call tests before r = Verdicts tests before (ofOutcome (r .outcome)) (r .buffer)
+
+abbrev pub Word : ℕ → List Test → List ℕ → ℕ → List ℕ → Type 0
+Word value tests before word after = Decided (λ v. wordOf v value) tests before word after
+
+-- ---- the calls
+-- frames read and written
+pub record Frames : Type 0 where
+  pub read : (kind identifier remote : ℕ) (s : List ℕ) → ofReading (reading kind identifier remote s) ≡ verdict (readerOrder kind identifier remote s)
+  pub write : (kind : ℕ) (a : Address) (m : Message) → ofWriting (writing kind a m) ≡ verdict (writerOrder kind m)
+
+-- the picture, of any bytes
+pub record Pictures : Type 0 where
+  pub fresh : (b : List ℕ) → Call (pictureTest b ∷ []) b (freshening b)
+  pub hear : (b : List ℕ) (identifier remote : ℕ) (s : List ℕ) → Call (hearingOrder b identifier remote s) b (hearing b identifier remote s)
+  pub step-back : (b : List ℕ) → Call (backOrder b) b (steppingBack b)
+
+-- questions on any bytes, of any address
+pub record Questions : Type 0 where
+  pub kept : (b : List ℕ) → ofAnswer (keptAnswer b) ≡ verdict (pictureTest b ∷ [])
+  pub type-of : (b : List ℕ) (a : ℕ) → ofAnswer (typeAnswer b a) ≡ verdict (moduleOrder b a [])
+  pub number : (b : List ℕ) (a : ℕ) (q : Asked) → ofAnswer (numberAnswer b a q) ≡ verdict (numberOrder b a q)
+  pub listed : (b out : List ℕ) → Call (listedOrder b out) out (listing b out)
+  pub name-heard : (b : List ℕ) (a name : ℕ) (out : List ℕ) → Call (nameOrder b a name out []) out (nameHeard b a name out)
+  pub name : (b : List ℕ) (a name : ℕ) (out : List ℕ) → Call (wholeOrder b a name out) out (nameWhole b a name out)
+  pub memory-row : (b : List ℕ) (a : ℕ) (out : List ℕ) → Call (memoryOrder b a out) out (memoryRow b a out)
+
+-- recordings: a record put; and one read, where the first fault decides: 15 at the input's end, or 16 at its byte, whatever follows
+pub record Recordings : Type 0 where
+  pub put-record : (b : List ℕ) (at gap identifier remote : ℕ) (ds : List ℕ)
+      → Verdicts (putOrder b at gap identifier remote ds) b (ofPut (putAnswer b at gap identifier remote ds)) (putBytes b at gap identifier remote ds)
+  pub whole : RecordsAreWhole
+  pub placed : FaultsArePlaced
+  pub settles : WindowSettles
+
+-- the words of C, where velbus_picture_size alone has nothing to refuse: of the calls above, and of those that have definitions of their own
+pub record Words : Type 0 where
+  -- no value is a refusal
+  pub apart : (value n : ℕ) → value < values → 0 < n → value ≢ refusedWord n
+  -- velbus_fresh, hear, step_back, listed, name_heard, name
+  pub of-outcome : (o : Outcome) → outcomeWord o ≡ wordOf (ofOutcome o) 0
+  -- velbus_kept, type, build_year, build_week, cell, led, blind
+  pub of-answer : (a : Answer) → answerWord a ≡ wordOf (ofAnswer a) (valueOf a)
+  pub put-record : (b : List ℕ) (at gap identifier remote : ℕ) (ds : List ℕ)
+      → Word (length (recordBytes gap identifier remote ds) % values) (putOrder b at gap identifier remote ds) b
+      (putWord (putAnswer b at gap identifier remote ds)) (putBytes b at gap identifier remote ds)
+  pub read : (kind identifier remote : ℕ) (s out : List ℕ)
+      → Word messageSize (readOrder kind identifier remote s (length out)) out
+      (readWord (reading kind identifier remote s) (length out)) (readInto (reading kind identifier remote s) out)
+  pub write : (kind : ℕ) (message out : List ℕ)
+      → Word frameSize (writeOrder kind message (length out)) out (writeWord kind message (length out)) (writeInto kind message out)
+  pub memory-row : (b : List ℕ) (a : ℕ) (out : List ℕ)
+      → Word 0 (memoryBytesOrder b a out) out (rowWord (typeAnswer b a) (length out)) (rowInto b a (typeAnswer b a) out)
+
+pub record Demand1 : Type 0 where
+  pub frames : Frames
+  pub pictures : Pictures
+  pub questions : Questions
+  pub recordings : Recordings
+  pub words : Words

@@ -1,0 +1,81 @@
+-- Demand 3: after any run of frames and steps back, the picture shows exactly what the standing frames tell, place by place, unknown where none does; a
+-- step back is granted exactly while the kept count is above zero. The proof is proofs/Demand3.antt.
+use Prim.Native.Nat.{ℕ, zero, suc, _+_, _<_, _≤_}
+use mathlib.Core.Path.{_≡_}
+use mathlib.Core.List.{List, [], _∷_, map}
+use lib.ListN.{length, take, drop}
+use Rattle.laws.specs.Refusals.{nothingKept}
+use Rattle.picture.specs.declared.Outcome.{Outcome}
+use Rattle.picture.specs.declared.Outcome.the-variants.{Done, Refused}
+use Rattle.picture.specs.Layout.{size}
+use Rattle.history.specs.Standing.{Frame, Event, hear, back, kept}
+use Rattle.history.specs.Demand3.{Demand3 as ShowsStanding, doing, runBytes, runsBytes, InOrder, ListedIs}
+use Rattle.history.specs.Effects.{BackOver, RoomUsedAgain}
+use Rattle.recording.specs.declared.records.Entry.{Entry}
+use Rattle.recording.specs.declared.records.Entry.the-variants.{Record, End, Broken}
+use Rattle.recording.specs.Record.{readRecord}
+use Rattle.replay.specs.Replay.{heardBy, replayed}
+use Rattle.replay.specs.Statements.{TurnsAreReplay}
+
+-- a step back after the events h
+abbrev pub backAfter : List ℕ → List Event → Outcome
+backAfter b h = doing back (runBytes b h) .outcome
+
+abbrev pub Granted : Type 0
+Granted = (b : List ℕ) → size ≤ length b → (h : List Event) → 0 < kept h → backAfter b h ≡ Done
+
+abbrev pub NotGranted : Type 0
+NotGranted = (b : List ℕ) → size ≤ length b → (h : List Event) → kept h ≡ 0 → backAfter b h ≡ Refused nothingKept
+
+-- ---- recordings
+-- the frames of a recording's unbroken records, from the offset `at` on, at most so many
+abbrev pub framesBy : (ℕ → List Frame) → List ℕ → Entry → List Frame
+framesBy rest s (Record gap identifier remote start len next) = record { identifier = identifier; remote = remote; bytes = take len (drop start s) } ∷ rest next
+framesBy rest s End = []
+framesBy rest s (Broken refusal offset) = []
+
+unfoldable pub framesFrom : ℕ → List ℕ → ℕ → List Frame
+framesFrom zero s at = []
+framesFrom (suc steps) s at = framesBy (framesFrom steps s) s (readRecord s at)
+
+-- all of them: each takes at least one byte
+abbrev pub framesOf : List ℕ → List Frame
+framesOf s = framesFrom (suc (length s)) s 0
+
+-- how many of the frames are accepted, and how many not, heard one after the other
+abbrev pub accepting : Outcome → ℕ
+accepting Done = 1
+accepting (Refused n) = 0
+
+abbrev pub refusing : Outcome → ℕ
+refusing Done = 0
+refusing (Refused n) = 1
+
+unfoldable pub counting : (Outcome → ℕ) → List ℕ → List Frame → ℕ
+counting one b [] = 0
+counting one b (f ∷ fs) = one (doing (hear f) b .outcome) + counting one (doing (hear f) b .buffer) fs
+
+-- a recording replayed is its frames heard; heard and refused count the records so answered
+pub record Replays (b s : List ℕ) : Type 0 where
+  pub picture : replayed heardBy b s .picture ≡ runsBytes b (map hear (framesOf s))
+  pub heard : replayed heardBy b s .replay .heard ≡ counting accepting b (framesOf s)
+  pub refused : replayed heardBy b s .replay .refused ≡ counting refusing b (framesOf s)
+
+abbrev pub RecordingsHeard : Type 0
+RecordingsHeard = (b s : List ℕ) → Replays b s
+
+pub record Demand3 : Type 0 where
+  -- every question, and the answer to every next frame and step back
+  pub shows-standing : ShowsStanding
+  -- in the order in which frames and steps back happen
+  pub in-order : InOrder
+  -- a step back is granted exactly while the kept count is above zero
+  pub granted : Granted
+  pub not-granted : NotGranted
+  -- and brings back every answer; a module entered and stepped back over is gone, and its room is used again
+  pub back-over : BackOver
+  pub room-used-again : RoomUsedAgain
+  pub listed-is : ListedIs
+  -- the same of a recording, however it is cut
+  pub recordings-heard : RecordingsHeard
+  pub turns-are-replay : TurnsAreReplay

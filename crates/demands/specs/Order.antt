@@ -1,0 +1,194 @@
+-- Document 01's order of refusals: for each call the tests that it makes, in the paper's order, each with the number of its refusal.
+use Prim.Native.Nat.{ℕ, _+_, _*_}
+use mathlib.Core.List.{List, [], _∷_, _++_}
+use mathlib.Core.Bool.{Bool, false, not, _||_, cond}
+use lib.Dec.{eqb, ltb, leb}
+use lib.ListN.{length}
+use Rattle.laws.specs.Refusals.{badIdentifier, badForm, badPriority, badType, typeNotKnown, notListed, wrongLength, wrongPriority, badField, noRoom, nothingKept, noSuchPlace, tooShort, notWhole, badNumber}
+use Rattle.laws.specs.Tests.{among}
+use Rattle.frame.specs.Identifiers.{low, priorities, priorityOf, plainIdentifier, wellFormed}
+use Rattle.frame.specs.Rows.{noType, moduleTypes, handedTypes, rowFor, isListed}
+use Rattle.frame.specs.Bytes.{byte, dataOf, bytesOf}
+use Rattle.frame.specs.Messages.{typeCommand, decode, encode}
+use Rattle.frame.specs.Fields.{fault}
+use Rattle.frame.specs.declared.messages.Command.{Command}
+use Rattle.frame.specs.declared.messages.Message.{Message}
+use Rattle.frame.specs.declared.messages.Message.the-variants.{TypeRequest, Tells}
+use Rattle.picture.specs.Limits.{room, addresses, busAddress}
+use Rattle.picture.specs.Places.{places, nameLength, extentOf, Asked, placeAsked, hasName}
+use Rattle.picture.specs.Bytes.{short, modulesOf, keptOf, slotOf, kindIn}
+use Rattle.picture.specs.Questions.{slotAsked, characterHeard, sumTo}
+use Rattle.recording.specs.Write.{inRange, recordBytes}
+use Rattle.velbus.specs.declared.parts.Held.{Held}
+use Rattle.velbus.specs.declared.parts.Held.the-variants.{Holds, Nothing}
+use Rattle.velbus.specs.Layout.{messageSize, heldIn}
+use Rattle.velbus.specs.Frames.{frameSize}
+
+infix 70 _or_
+-- a test, or the number of the refusal where it fails
+pub record Test : Type 0 where
+  pub passes : Bool
+  pub number : ℕ
+
+abbrev pub _or_ : Bool → ℕ → Test
+_or_ passes number = record { passes = passes; number = number }
+
+-- what a call comes to: an answer, or one refusal number
+pub data Verdict : Type 0 where
+  answers : Verdict
+  refuses : ℕ → Verdict
+
+-- an answer where every test passes; else the number of the first that fails
+abbrev pub verdict : List Test → Verdict
+verdict [] = answers
+verdict (t ∷ ts) = cond (t .passes) (verdict ts) (refuses (t .number))
+
+-- ---- frames
+-- the command that the data bytes are
+abbrev pub commandOf : List ℕ → Command
+commandOf s = decode (bytesOf (dataOf s))
+
+-- a bad handed-in type (4), 1, 2, 3
+abbrev pub formTests : ℕ → ℕ → ℕ → List ℕ → List Test
+formTests kind identifier remote s =
+    among kind handedTypes or badType
+    ∷ plainIdentifier identifier or badIdentifier
+    ∷ wellFormed remote (length s) or badForm
+    ∷ among (priorityOf identifier) priorities or badPriority
+    ∷ []
+
+-- then a remote frame is the type request, at any address, with only 8 left to test
+abbrev pub requestTests : ℕ → List Test
+requestTests identifier = eqb (priorityOf identifier) low or wrongPriority ∷ []
+
+-- a command in the type's list: 7, 8, 9
+abbrev pub rowTests : ℕ → ℕ → List ℕ → List Test
+rowTests kind identifier s =
+    eqb (length s) (rowFor kind (byte 1 s) .0) or wrongLength
+    ∷ eqb (priorityOf identifier) (rowFor kind (byte 1 s) .1) or wrongPriority
+    ∷ eqb (fault kind (commandOf s)) 0 or badField
+    ∷ []
+
+-- FF with fewer than 2 bytes is 7; then its type byte (4), and 7, 8, 9 by the type inside it
+abbrev pub typeTests : ℕ → List ℕ → List Test
+typeTests identifier s = leb 2 (length s) or wrongLength ∷ among (byte 2 s) moduleTypes or badType ∷ rowTests (byte 2 s) identifier s
+
+-- any other command: 5, 6, 7, 8, 9
+abbrev pub otherTests : ℕ → ℕ → List ℕ → List Test
+otherTests kind identifier s =
+    not (eqb kind noType) or typeNotKnown ∷ isListed kind (byte 1 s) or notListed ∷ rowTests kind identifier s
+
+-- a frame with data: FF, with what is tested last of it, or any other command
+abbrev pub dataTests : List Test → ℕ → ℕ → List ℕ → List Test
+dataTests last kind identifier s = cond (eqb (byte 1 s) typeCommand) (typeTests identifier s ++ last) (otherTests kind identifier s)
+
+-- the whole order
+abbrev pub frameOrder : List Test → ℕ → ℕ → ℕ → List ℕ → List Test
+frameOrder last kind identifier remote s =
+    formTests kind identifier remote s ++ cond (eqb remote 1) (requestTests identifier) (dataTests last kind identifier s)
+
+-- the reader alone gives no 10
+abbrev pub readerOrder : ℕ → ℕ → ℕ → List ℕ → List Test
+readerOrder kind identifier remote s = frameOrder [] kind identifier remote s
+
+-- the writer: FF has only 9 left to test, by the type inside it
+abbrev pub typeWritten : Command → List Test
+typeWritten m = eqb (fault (byte 2 (encode m)) m) 0 or badField ∷ []
+
+-- any other command: 5, 6, 9
+abbrev pub otherWritten : ℕ → Command → List Test
+otherWritten kind m =
+    not (eqb kind noType) or typeNotKnown ∷ isListed kind (byte 1 (encode m)) or notListed ∷ eqb (fault kind m) 0 or badField ∷ []
+
+-- the type request has nothing left to test
+abbrev pub messageTests : ℕ → Message → List Test
+messageTests kind TypeRequest = []
+messageTests kind (Tells m) = cond (eqb (byte 1 (encode m)) typeCommand) (typeWritten m) (otherWritten kind m)
+
+-- a bad handed-in type (4) comes first
+abbrev pub writerOrder : ℕ → Message → List Test
+writerOrder kind m = among kind handedTypes or badType ∷ messageTests kind m
+
+-- ---- the picture
+-- a picture too short is 13, before anything else
+abbrev pub pictureTest : List ℕ → Test
+pictureTest b = not (short b) or tooShort
+
+-- the slot and the type that the picture has for the address of a frame
+abbrev pub slotHeard : List ℕ → ℕ → ℕ
+slotHeard b identifier = slotOf b (busAddress identifier)
+
+abbrev pub kindHeard : List ℕ → ℕ → ℕ
+kindHeard b identifier = kindIn b (slotHeard b identifier)
+
+-- FF at a listed address, or while there is room
+abbrev pub roomTest : List ℕ → ℕ → Test
+roomTest b identifier = (ltb (slotHeard b identifier) room || ltb (modulesOf b) room) or noRoom
+
+-- a frame heard: the reader's, by the type that the picture has for the address; and 10 after those of FF
+abbrev pub hearingOrder : List ℕ → ℕ → ℕ → List ℕ → List Test
+hearingOrder b identifier remote s = pictureTest b ∷ frameOrder (roomTest b identifier ∷ []) (kindHeard b identifier) identifier remote s
+
+-- a step back with 0 kept
+abbrev pub backOrder : List ℕ → List Test
+backOrder b = pictureTest b ∷ not (eqb (keptOf b) 0) or nothingKept ∷ []
+
+-- ---- questions: 5, 12, 13, 14
+-- the type that is known of the address asked
+abbrev pub kindAsked : List ℕ → ℕ → ℕ
+kindAsked b a = kindIn b (slotAsked b a)
+
+-- of a listed module, after which comes what else is tested
+abbrev pub moduleOrder : List ℕ → ℕ → List Test → List Test
+moduleOrder b a later = pictureTest b ∷ ltb (slotAsked b a) room or typeNotKnown ∷ later
+
+-- the row of n numbers has room in the buffer
+abbrev pub rowTest : ℕ → List ℕ → Test
+rowTest n out = leb n (length out) or tooShort
+
+-- the listed addresses
+abbrev pub listedOrder : List ℕ → List ℕ → List Test
+listedOrder b out = pictureTest b ∷ rowTest addresses out ∷ []
+
+-- a cell, LED, blind state, build year or build week
+abbrev pub numberOrder : List ℕ → ℕ → Asked → List Test
+numberOrder b a q = moduleOrder b a (ltb (placeAsked (kindAsked b a) q) places or noSuchPlace ∷ [])
+
+-- a name, after which comes what else is tested
+abbrev pub nameOrder : List ℕ → ℕ → ℕ → List ℕ → List Test → List Test
+nameOrder b a name out later = moduleOrder b a (hasName (kindAsked b a) name or noSuchPlace ∷ rowTest nameLength out ∷ later)
+
+-- a whole name: every character is heard
+abbrev pub wholeOrder : List ℕ → ℕ → ℕ → List ℕ → List Test
+wholeOrder b a name out = nameOrder b a name out (eqb (sumTo (characterHeard b (slotAsked b a) name) nameLength) nameLength or notWhole ∷ [])
+
+-- how many cells the module has
+abbrev pub cellsAsked : List ℕ → ℕ → ℕ
+cellsAsked b a = extentOf (kindAsked b a) .cells
+
+-- the memory row: a number for each cell
+abbrev pub memoryOrder : List ℕ → ℕ → List ℕ → List Test
+memoryOrder b a out = moduleOrder b a (rowTest (cellsAsked b a) out ∷ [])
+
+-- as C has it: two bytes for each cell
+abbrev pub memoryBytesOrder : List ℕ → ℕ → List ℕ → List Test
+memoryBytesOrder b a out = moduleOrder b a (rowTest (2 * cellsAsked b a) out ∷ [])
+
+-- ---- recordings
+-- a record put at a place: 16, then 13
+abbrev pub putOrder : List ℕ → ℕ → ℕ → ℕ → ℕ → List ℕ → List Test
+putOrder b at gap identifier remote ds =
+    inRange gap identifier remote (length ds) or badNumber ∷ leb (at + length (recordBytes gap identifier remote ds)) (length b) or tooShort ∷ []
+
+-- ---- from C
+-- velbus_read: the reader's own, then 13 for the message
+abbrev pub readOrder : ℕ → ℕ → ℕ → List ℕ → ℕ → List Test
+readOrder kind identifier remote s space = readerOrder kind identifier remote s ++ (leb messageSize space or tooShort ∷ [])
+
+-- velbus_write: 13 for the message; 6 for bytes that are none; the writer's own; 13 for the frame
+abbrev pub heldOrder : ℕ → Held → ℕ → List Test
+heldOrder kind (Holds a m) space = writerOrder kind m ++ (leb frameSize space or tooShort ∷ [])
+heldOrder kind Nothing space = false or notListed ∷ []
+
+abbrev pub writeOrder : ℕ → List ℕ → ℕ → List Test
+writeOrder kind message space = not (ltb (length message) messageSize) or tooShort ∷ heldOrder kind (heldIn message) space
