@@ -1,0 +1,348 @@
+#include "plain.h"
+
+#include <string.h>
+
+_Static_assert(__BYTE_ORDER__ == __ORDER_LITTLE_ENDIAN__, "a memory row and the LEDs are laid out low byte first");
+_Static_assert(sizeof(struct plain_module) == 1024, "a slot is found by a shift");
+
+enum {
+    BAD_IDENTIFIER = 1, BAD_FORM, BAD_PRIORITY, BAD_TYPE, TYPE_NOT_KNOWN, NOT_LISTED, WRONG_LENGTH, WRONG_PRIORITY, BAD_FIELD,
+    NO_ROOM, NOTHING_KEPT, NO_SUCH_PLACE, TOO_SHORT,
+};
+
+static inline uint32_t refuse(unsigned number) { return (uint32_t)number << 16; }
+
+/* ---- the tables ---- */
+
+/* What a frame's bytes are tested for, and what they do: one number for both, so that one jump serves a frame. */
+enum act {
+    FREE, BUTTONS, CELL_TOLD, CELL_SET, BLOCK_TOLD, BLOCK_SET, LOCATION_ASKED, NAME_ONE, NAME_TWO, NAME_THREE, NAME_ASKED,
+    STATUS_ASKED, INPUT_STATUS, LEDS_ALL, LEDS, BLIND_STATUS, BLIND_MOVED,
+};
+
+enum { HIGH = 0, LOW = 3 };
+
+/* A command of a kind: the form of its frames, and the last memory location that may stand in them. */
+struct rule {
+    _Alignas(4) uint8_t form; /* aligned so that a rule is found by a shift */
+    uint8_t act, last;
+};
+
+/* A frame's length and priority in one number, so that one test serves both; 0 is the form of no frame. */
+#define FORM(length, priority) ((length) << 2 | (priority))
+
+#define H(length) FORM(length, HIGH)
+#define L(length) FORM(length, LOW)
+
+#define OF_BOTH(last_cell, last_start)                                                                                            \
+    [0xFE] = {L(4), CELL_TOLD, last_cell}, [0xFD] = {L(3), LOCATION_ASKED, last_cell}, [0xFC] = {L(4), CELL_SET, last_cell},      \
+    [0xCC] = {L(7), BLOCK_TOLD, last_start}, [0xC9] = {L(3), LOCATION_ASKED, last_start}, [0xCA] = {L(7), BLOCK_SET, last_start}, \
+    [0xF0] = {L(8), NAME_ONE, 0}, [0xF1] = {L(8), NAME_TWO, 0}, [0xF2] = {L(6), NAME_THREE, 0}, [0xEF] = {L(2), NAME_ASKED, 0},   \
+    [0xDA] = {L(4), FREE, 0}, [0xCB] = {L(1), FREE, 0}, [0xD9] = {L(1), FREE, 0}
+
+static const struct rule rules[PLAIN_KINDS][256] = {
+    [PLAIN_VMB8IR] = {OF_BOTH(0xFF, 0xFC), [0x00] = {H(4), FREE, 0}, [0xFA] = {L(2), FREE, 0}, [0xEB] = {L(5), INPUT_STATUS, 0},
+                      [0xF4] = {L(4), LEDS_ALL, 0}, [0xF5] = {L(2), LEDS, 0}, [0xF6] = {L(2), LEDS, 0},
+                      [0xF7] = {L(2), LEDS, 0}, [0xF8] = {L(2), LEDS, 0}, [0xF9] = {L(2), LEDS, 0}},
+    [PLAIN_VMB1BL] = {OF_BOTH(0x7F, 0x7C), [0x00] = {H(4), BUTTONS, 0}, [0xFA] = {L(2), STATUS_ASKED, 0},
+                      [0xEC] = {L(8), BLIND_STATUS, 0}, [0x04] = {H(2), BLIND_MOVED, 0}, [0x05] = {H(5), BLIND_MOVED, 0},
+                      [0x06] = {H(5), BLIND_MOVED, 0}},
+};
+
+/* The name that a channel byte stands for, from 1; 0 where it stands for none. */
+static const uint8_t name_of[PLAIN_KINDS][256] = {
+    [PLAIN_VMB8IR] = {[0x01] = 1, [0x02] = 2, [0x04] = 3, [0x08] = 4, [0x10] = 5, [0x20] = 6, [0x40] = 7, [0x80] = 8},
+    [PLAIN_VMB1BL] = {[0x03] = 1, [0x10] = 2, [0x20] = 3},
+};
+
+enum { BLIND_CHANNEL = 0x03, NO_BUTTON_BITS = 0xCC, END_OF_BUTTON_NAME = 0xFF };
+
+static const uint16_t cells_of[PLAIN_KINDS] = {0, 256, 128};
+static const uint8_t names_of[PLAIN_KINDS] = {0, 8, 3};
+static const uint8_t type_of[PLAIN_KINDS] = {0x00, 0x0A, 0x03};
+
+/* ---- steps ---- */
+
+static inline struct plain_step *next_step(struct plain_picture *p)
+{
+    struct plain_step *s = &p->step[p->next];
+    p->next = (uint8_t)((p->next + 1) % PLAIN_DEPTH);
+    p->kept = (uint8_t)(p->kept + (p->kept < PLAIN_DEPTH));
+    return s;
+}
+
+static inline uint32_t step_over_nothing(struct plain_picture *p)
+{
+    next_step(p)->start = PLAIN_NOTHING;
+    return 0;
+}
+
+/* Keeps PLAIN_RUN bytes from `field` on. Steps are taken back latest first, so it does no harm that a frame changed fewer. */
+static inline void keep(struct plain_picture *p, const void *field)
+{
+    struct plain_step *s = next_step(p);
+    s->start = (uint32_t)((const uint8_t *)field - (const uint8_t *)p);
+    memcpy(s->old, field, PLAIN_RUN);
+}
+
+uint32_t plain_step_back(struct plain_picture *p)
+{
+    if (p->kept == 0)
+        return refuse(NOTHING_KEPT);
+    p->kept--;
+    p->next = (uint8_t)((p->next + PLAIN_DEPTH - 1) % PLAIN_DEPTH);
+    const struct plain_step *s = &p->step[p->next];
+    if (s->start > PLAIN_ENTERED)
+        memcpy((uint8_t *)p + s->start, s->old, PLAIN_RUN);
+    else if (s->start == PLAIN_ENTERED)
+        p->slot[p->module[--p->modules].address] = PLAIN_MODULES;
+    return 0;
+}
+
+/* ---- modules ---- */
+
+void plain_fresh(struct plain_picture *p)
+{
+    p->modules = p->kept = p->next = 0;
+    memset(p->slot, PLAIN_MODULES, sizeof p->slot);
+    p->module[PLAIN_MODULES].kind = PLAIN_NO_MODULE;
+}
+
+static void blank(struct plain_module *m, unsigned kind, unsigned address)
+{
+    m->kind = (uint8_t)kind;
+    m->address = (uint8_t)address;
+    for (size_t i = 0; i < PLAIN_CELLS; i++)
+        m->cell[i] = PLAIN_UNKNOWN;
+    uint16_t *character = m->character[0];
+    for (size_t i = 0; i < sizeof m->character / sizeof *character; i++)
+        character[i] = PLAIN_UNKNOWN;
+    m->leds = UINT64_MAX;
+    m->blind = UINT8_MAX;
+}
+
+/* FF: a module enters, is told again, or is exchanged. */
+static uint32_t hear_type(struct plain_picture *p, unsigned address, unsigned priority, const uint8_t *data, size_t count)
+{
+    if (count < 2)
+        return refuse(WRONG_LENGTH);
+    unsigned kind = data[1] == 0x0A ? PLAIN_VMB8IR : data[1] == 0x03 ? PLAIN_VMB1BL : PLAIN_NO_MODULE;
+    if (kind == PLAIN_NO_MODULE)
+        return refuse(BAD_TYPE);
+    if (count != (kind == PLAIN_VMB8IR ? 7 : 5))
+        return refuse(WRONG_LENGTH);
+    if (priority != LOW)
+        return refuse(WRONG_PRIORITY);
+    if (kind == PLAIN_VMB1BL && data[2] > 3)
+        return refuse(BAD_FIELD);
+    struct plain_module *m = &p->module[p->slot[address]];
+    if (m->kind == kind) {
+        keep(p, m->build);
+    } else if (m->kind != PLAIN_NO_MODULE) {
+        p->kept = 0;
+        blank(m, kind, address);
+    } else {
+        if (p->modules == PLAIN_MODULES)
+            return refuse(NO_ROOM);
+        next_step(p)->start = PLAIN_ENTERED;
+        m = &p->module[p->modules];
+        p->slot[address] = p->modules++;
+        blank(m, kind, address);
+    }
+    memcpy(m->build, data + count - 2, 2);
+    return 0;
+}
+
+/* ---- what frames tell ---- */
+
+static inline uint32_t tell(struct plain_picture *p, uint16_t *restrict places, const uint8_t *restrict values, size_t n)
+{
+    keep(p, places);
+    for (size_t i = 0; i < n; i++)
+        places[i] = values[i];
+    return 0;
+}
+
+static inline uint32_t ask(struct plain_picture *p, uint16_t *places, size_t n)
+{
+    keep(p, places);
+    for (size_t i = 0; i < n; i++)
+        places[i] = PLAIN_UNKNOWN;
+    return 0;
+}
+
+static inline uint32_t tell_name(struct plain_picture *p, struct plain_module *m, const uint8_t *restrict data, size_t from, size_t n)
+{
+    unsigned name = name_of[m->kind][data[1]];
+    if (name == 0)
+        return refuse(BAD_FIELD);
+    return tell(p, &m->character[name - 1][from], data + 2, n);
+}
+
+static const uint64_t EACH_BYTE = 0x0101010101010101;
+
+/* Bit i of a byte as the byte i, 0 or 1. */
+static inline uint64_t spread(uint8_t bits)
+{
+    uint64_t own = bits * EACH_BYTE & 0x8040201008040201;
+    return (own + 0x7F * EACH_BYTE) >> 7 & EACH_BYTE;
+}
+
+/* All eight at once: 1 on, else 4 very fast where both others are, else 2 slow, 3 fast, 0 off. */
+static inline uint32_t tell_leds(struct plain_picture *p, struct plain_module *m, uint8_t on, uint8_t slow, uint8_t fast)
+{
+    keep(p, &m->leds);
+    uint64_t lit = spread(on), slowly = spread(slow) & ~lit, quickly = spread(fast) & ~lit;
+    m->leds = lit + 2 * slowly + 3 * quickly - (slowly & quickly);
+    return 0;
+}
+
+static inline uint32_t tell_some_leds(struct plain_picture *p, struct plain_module *m, uint8_t state, uint8_t named)
+{
+    keep(p, &m->leds);
+    uint64_t mask = spread(named) * 0xFF;
+    m->leds = (m->leds & ~mask) | (state * EACH_BYTE & mask);
+    return 0;
+}
+
+static inline uint32_t tell_blind(struct plain_picture *p, struct plain_module *m, uint8_t state)
+{
+    keep(p, &m->blind);
+    m->blind = state;
+    return 0;
+}
+
+static inline int at_most_one_bit(uint8_t b) { return (b & (b - 1)) == 0; }
+
+static inline int blind_status_allowed(const uint8_t *d)
+{
+    return d[1] == BLIND_CHANNEL && d[2] <= 3 && d[3] <= 2 && at_most_one_bit(d[4]);
+}
+
+static inline int end_of_name_allowed(const struct plain_module *m, const uint8_t *d)
+{
+    return m->kind != PLAIN_VMB1BL || d[1] == BLIND_CHANNEL || d[5] == END_OF_BUTTON_NAME;
+}
+
+static inline int no_location(const uint8_t *d, const struct rule *rule) { return d[1] != 0 || d[2] > rule->last; }
+
+/* A frame of the right form: its fields, and what it does. */
+static inline uint32_t act_on(struct plain_picture *p, struct plain_module *m, const struct rule *rule, const uint8_t *restrict d)
+{
+    switch (rule->act) {
+    case FREE:
+        return step_over_nothing(p);
+    case BUTTONS:
+        return (d[1] | d[2] | d[3]) & NO_BUTTON_BITS ? refuse(BAD_FIELD) : step_over_nothing(p);
+    case CELL_TOLD:
+        return no_location(d, rule) ? refuse(BAD_FIELD) : tell(p, &m->cell[d[2]], d + 3, 1);
+    case CELL_SET:
+        return no_location(d, rule) ? refuse(BAD_FIELD) : ask(p, &m->cell[d[2]], 1);
+    case BLOCK_TOLD:
+        return no_location(d, rule) ? refuse(BAD_FIELD) : tell(p, &m->cell[d[2]], d + 3, 4);
+    case BLOCK_SET:
+        return no_location(d, rule) ? refuse(BAD_FIELD) : ask(p, &m->cell[d[2]], 4);
+    case LOCATION_ASKED:
+        return no_location(d, rule) ? refuse(BAD_FIELD) : step_over_nothing(p);
+    case NAME_ONE:
+        return tell_name(p, m, d, 0, 6);
+    case NAME_TWO:
+        return tell_name(p, m, d, 6, 6);
+    case NAME_THREE:
+        return end_of_name_allowed(m, d) ? tell_name(p, m, d, 12, 4) : refuse(BAD_FIELD);
+    case NAME_ASKED:
+        return name_of[m->kind][d[1]] == 0 ? refuse(BAD_FIELD) : step_over_nothing(p);
+    case STATUS_ASKED:
+        return d[1] != BLIND_CHANNEL ? refuse(BAD_FIELD) : step_over_nothing(p);
+    case INPUT_STATUS:
+        return tell_leds(p, m, d[2], d[3], d[4]);
+    case LEDS_ALL:
+        return tell_leds(p, m, d[1], d[2], d[3]);
+    case LEDS:
+        return tell_some_leds(p, m, (uint8_t)(d[0] - 0xF5), d[1]);
+    case BLIND_STATUS:
+        return blind_status_allowed(d) ? tell_blind(p, m, d[3]) : refuse(BAD_FIELD);
+    default: /* BLIND_MOVED */
+        return d[1] != BLIND_CHANNEL ? refuse(BAD_FIELD) : tell_blind(p, m, UINT8_MAX);
+    }
+}
+
+static uint32_t refuse_form(unsigned kind, const struct rule *rule, size_t count)
+{
+    if (kind == PLAIN_NO_MODULE)
+        return refuse(TYPE_NOT_KNOWN);
+    if (rule->form == 0)
+        return refuse(NOT_LISTED);
+    return refuse(rule->form >> 2 != count ? WRONG_LENGTH : WRONG_PRIORITY);
+}
+
+uint32_t plain_hear(struct plain_picture *p, uint32_t identifier, uint32_t remote, const uint8_t *restrict data, size_t count)
+{
+    if (identifier > 2047 || identifier & 1)
+        return refuse(BAD_IDENTIFIER);
+    if (remote > 1 || count > 8 || remote == (count != 0))
+        return refuse(BAD_FORM);
+    unsigned priority = identifier >> 9, address = identifier >> 1 & 0xFF;
+    if (priority == 1 || priority == 2)
+        return refuse(BAD_PRIORITY);
+    if (remote)
+        return priority == LOW ? step_over_nothing(p) : refuse(WRONG_PRIORITY);
+    if (data[0] == 0xFF)
+        return hear_type(p, address, priority, data, count);
+    struct plain_module *m = &p->module[p->slot[address]];
+    const struct rule *rule = &rules[m->kind][data[0]];
+    if (rule->form != FORM(count, priority))
+        return refuse_form(m->kind, rule, count);
+    return act_on(p, m, rule, data);
+}
+
+/* ---- questions ---- */
+
+static inline const struct plain_module *module_at(const struct plain_picture *p, uint32_t address)
+{
+    return &p->module[address > 255 ? PLAIN_MODULES : p->slot[address]];
+}
+
+uint32_t plain_cell(const struct plain_picture *p, uint32_t address, uint32_t location)
+{
+    const struct plain_module *m = module_at(p, address);
+    if (m->kind == PLAIN_NO_MODULE)
+        return refuse(TYPE_NOT_KNOWN);
+    if (location >= cells_of[m->kind])
+        return refuse(NO_SUCH_PLACE);
+    return m->cell[location];
+}
+
+uint32_t plain_memory_row(const struct plain_picture *p, uint32_t address, uint8_t *out, size_t out_len)
+{
+    const struct plain_module *m = module_at(p, address);
+    if (m->kind == PLAIN_NO_MODULE)
+        return refuse(TYPE_NOT_KNOWN);
+    size_t size = cells_of[m->kind] * sizeof m->cell[0];
+    if (out_len < size)
+        return refuse(TOO_SHORT);
+    memcpy(out, m->cell, size);
+    return 0;
+}
+
+unsigned plain_told_cells(const struct plain_module *m)
+{
+    unsigned told = 0;
+    for (size_t i = 0; i < cells_of[m->kind]; i++)
+        told += m->cell[i] != PLAIN_UNKNOWN;
+    return told;
+}
+
+unsigned plain_whole_names(const struct plain_module *m)
+{
+    unsigned whole = 0;
+    for (size_t n = 0; n < names_of[m->kind]; n++) {
+        unsigned heard = 0;
+        for (size_t i = 0; i < PLAIN_NAME_SIZE; i++)
+            heard += m->character[n][i] != PLAIN_UNKNOWN;
+        whole += heard == PLAIN_NAME_SIZE;
+    }
+    return whole;
+}
+
+unsigned plain_type(const struct plain_module *m) { return type_of[m->kind]; }
