@@ -31,14 +31,14 @@ use Rattle.recording.proofs.Entries.{records-are-whole, faults-are-placed}
 use Rattle.recording.proofs.Windows.{window-settles}
 use Rattle.velbus.specs.declared.parts.Held.{Held}
 use Rattle.velbus.specs.declared.parts.Held.the-variants.{Holds, Nothing}
-use Rattle.velbus.specs.Words.{refusedWord, roomWord, outcomeWord, answerWord}
+use Rattle.velbus.specs.Words.{values, refusedWord, roomWord, outcomeWord, answerWord}
 use Rattle.velbus.specs.Recordings.{putWord}
 use Rattle.velbus.specs.Parts.{partsOf}
 use Rattle.velbus.specs.Layout.{messageSize, laidBytes, heldIn}
 use Rattle.velbus.specs.Frames.{frameSize, frameBytes, readWord, readInto, writtenWord, writtenInto, heldWord, heldInto, writeWord, writeInto}
 use Rattle.velbus.specs.Rows.{valueOf, cellNumber, rowTo, typedWord, typedRow, rowWord, rowInto}
 use Rattle.demands.specs.Order.{Test, _or_, Verdict, answers, refuses, verdict, readerOrder, writerOrder, kindAsked, rowTest, cellsAsked, memoryBytesOrder, putOrder, heldOrder, writeOrder}
-use Rattle.demands.specs.Demand1.{ofReading, ofWriting, ofOutcome, ofAnswer, ofPut, values, wordOf, Decided, Word, Recordings, Words}
+use Rattle.demands.specs.Demand1.{ofReading, ofWriting, ofOutcome, ofAnswer, ofPut, wordOf, Decided, Word, Recordings, Words}
 use Rattle.demands.proofs.Orders.{answers-refuses, by-test, by-fault, choice-test, choice-fault, answered-then, refused-then}
 use Rattle.demands.proofs.FrameOrders.{reads, writes}
 

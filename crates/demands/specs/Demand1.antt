@@ -26,7 +26,7 @@ use Rattle.recording.specs.declared.writes.Put.{Put}
 use Rattle.recording.specs.declared.writes.Put.the-variants as put
 use Rattle.recording.specs.Write.{recordBytes, putAnswer, putBytes}
 use Rattle.recording.specs.Statements.{RecordsAreWhole, FaultsArePlaced, WindowSettles}
-use Rattle.velbus.specs.Words.{refusedWord, outcomeWord, answerWord}
+use Rattle.velbus.specs.Words.{values, refusedWord, outcomeWord, answerWord}
 use Rattle.velbus.specs.Recordings.{putWord}
 use Rattle.velbus.specs.Layout.{messageSize}
 use Rattle.velbus.specs.Frames.{frameSize, readWord, readInto, writeWord, writeInto}
@@ -54,10 +54,7 @@ abbrev pub ofPut : Put → Verdict
 ofPut (put.Wrote n) = answers
 ofPut (put.Refused n) = refuses n
 
--- and as the word that C is given: a value, of which there are so many, or the refusal
-abbrev pub values : ℕ
-values = 65536
-
+-- and as the word that C is given: a value, or the refusal
 abbrev pub wordOf : Verdict → ℕ → ℕ
 wordOf answers value = value
 wordOf (refuses n) value = refusedWord n

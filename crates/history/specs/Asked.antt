@@ -12,12 +12,12 @@ use Rattle.picture.specs.declared.Answer.{Answer}
 use Rattle.picture.specs.declared.Answer.the-variants.{Value, Refused}
 use Rattle.picture.specs.Places.{Asked, placeAsked, places, hasName, nameLength, characterPlace, cellPlace, extentOf}
 use Rattle.picture.specs.Result.{Result, refusing, done}
-use Rattle.picture.specs.Limits.{addresses}
+use Rattle.picture.specs.Limits.{addresses, notHeard}
 use Rattle.history.specs.Standing.{Frame, Known, unknown, told, typeOf}
 
--- numbers of what is known: the value, or 256; and 1 for told, 0 for not heard
+-- numbers of what is known: the value, or notHeard; and 1 for told, 0 for not heard
 abbrev pub numberOf : Known → ℕ
-numberOf unknown = 256
+numberOf unknown = notHeard
 numberOf (told v) = v
 
 abbrev pub heardOf : Known → ℕ
@@ -45,7 +45,7 @@ over row out = row ++ drop (length row) out
 unfoldable pub filled : List ℕ → List ℕ → Result
 filled row out = cond (leb (length row) (length out)) (done (over row out)) (refusing tooShort out)
 
--- the listed addresses, as 256 yes or no
+-- the listed addresses, as one yes or no for each address
 abbrev pub yesIf : Option ℕ → ℕ
 yesIf none = 0
 yesIf (some kind) = 1
@@ -83,7 +83,7 @@ toldName (some kind) name known out =
     (named (allHeard nameLength (characterOf kind name known)) (tab nameLength (λ i. numberOf (characterOf kind name known i))) out)
     (refusing noSuchPlace out)
 
--- the memory row: each cell's value, or 256
+-- the memory row: each cell's value, or notHeard
 unfoldable pub toldMemory : Option ℕ → (ℕ → Known) → List ℕ → Result
 toldMemory none known out = refusing typeNotKnown out
 toldMemory (some kind) known out = filled (tab (extentOf kind .cells) (λ location. numberOf (known (cellPlace kind location)))) out

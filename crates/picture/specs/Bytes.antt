@@ -16,7 +16,7 @@ use Rattle.frame.specs.declared.reader.Reading.the-variants as reading-of
 use Rattle.picture.specs.Layout.{countAt, keptAt, nextAt, headSize, slotAt, recordAt, kindAt, placeAt, entryHead, entryAt, oldAt, size}
 use Rattle.picture.specs.Places.{places}
 use Rattle.picture.specs.Runs.{Run, Saying, silent, asks, tells, sayings, noRun, runOf, typeEntered}
-use Rattle.picture.specs.Limits.{room, depth, busAddress}
+use Rattle.picture.specs.Limits.{room, depth, mostPlaces, busAddress}
 use Rattle.picture.specs.Result.{Result, refusing, done}
 
 -- too short for a picture
@@ -36,7 +36,7 @@ nextOf b = getD b nextAt 0 % depth
 
 -- the ring's entry before and after the entry e
 abbrev pub before : ℕ → ℕ
-before e = (e + 15) % depth
+before e = (e + pred depth) % depth
 
 abbrev pub following : ℕ → ℕ
 following e = (e + 1) % depth
@@ -118,9 +118,9 @@ unfoldable pub stepped : List ℕ → List ℕ
 stepped b = set (set b keptAt (min depth (suc (keptOf b)))) nextAt (following (nextOf b))
 
 -- ---- what a frame does
--- a run has at most eight places
+-- a run has no more places than a frame speaks of
 abbrev pub countOf : Run → ℕ
-countOf r = min 8 (r .count)
+countOf r = min mostPlaces (r .count)
 
 -- count places as they are, from the place start on, into the log; and those of a run
 abbrev pub savedPlaces : List ℕ → ℕ → ℕ → ℕ → List ℕ
@@ -199,7 +199,7 @@ abbrev pub undoneStart : List ℕ → ℕ → ℕ
 undoneStart b e = getD b (entryAt e + 2) 0 + 256 * getD b (entryAt e + 3) 0
 
 abbrev pub undoneCount : List ℕ → ℕ → ℕ
-undoneCount b e = min 8 (getD b (entryAt e + 4) 0)
+undoneCount b e = min mostPlaces (getD b (entryAt e + 4) 0)
 
 -- an entry whose run does not lie in a record undoes nothing
 unfoldable pub fits : ℕ → ℕ → ℕ → Bool

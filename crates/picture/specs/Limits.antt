@@ -14,6 +14,14 @@ depth = 16
 abbrev pub addresses : ℕ
 addresses = 256
 
+-- the number that stands for a place which is not heard
+abbrev pub notHeard : ℕ
+notHeard = 256
+
+-- the most places that one frame speaks of
+abbrev pub mostPlaces : ℕ
+mostPlaces = 8
+
 -- the address that an identifier holds
 abbrev pub busAddress : ℕ → ℕ
 busAddress identifier = addressOf identifier .0

@@ -10,7 +10,7 @@ use Rattle.picture.specs.declared.Answer.{Answer}
 use Rattle.picture.specs.declared.Answer.the-variants.{Value, Refused}
 use Rattle.picture.specs.Layout.{placeAt}
 use Rattle.picture.specs.Places.{places, Asked, placeAsked, hasName, nameLength, characterPlace, cellPlace, extentOf}
-use Rattle.picture.specs.Limits.{room, addresses}
+use Rattle.picture.specs.Limits.{room, addresses, notHeard}
 use Rattle.picture.specs.Result.{Result, refusing, done}
 use Rattle.picture.specs.Bytes.{short, keptOf, noSlot, slotOf, kindIn}
 
@@ -18,9 +18,9 @@ use Rattle.picture.specs.Bytes.{short, keptOf, noSlot, slotOf, kindIn}
 unfoldable pub slotAsked : List ℕ → ℕ → ℕ
 slotAsked b a = cond (ltb a addresses) (slotOf b a) noSlot
 
--- the two bytes of a place: its value, or 256; and 1 for told, 0 for not heard
+-- the two bytes of a place: its value, or notHeard; and 1 for told, 0 for not heard
 unfoldable pub valueAt : List ℕ → ℕ → ℕ
-valueAt b o = cond (eqb (getD b (o + 1) 0) 0) 256 (getD b o 0)
+valueAt b o = cond (eqb (getD b (o + 1) 0) 0) notHeard (getD b o 0)
 
 unfoldable pub heardAt : List ℕ → ℕ → ℕ
 heardAt b o = cond (eqb (getD b (o + 1) 0) 0) 0 1
@@ -37,7 +37,7 @@ typeIn b s = cond (ltb s room) (Value (kindIn b s)) (Refused typeNotKnown)
 unfoldable pub typeAnswer : List ℕ → ℕ → Answer
 typeAnswer b a = cond (short b) (Refused tooShort) (typeIn b (slotAsked b a))
 
--- a place of the module in slot s: its value, 256, or 12 for no place
+-- a place of the module in slot s: its value, notHeard, or 12 for no place
 unfoldable pub placeIn : List ℕ → ℕ → ℕ → Answer
 placeIn b s p = cond (ltb p places) (Value (valueAt b (placeAt s p))) (Refused noSuchPlace)
 

@@ -13,6 +13,7 @@ use Rattle.frame.specs.declared.messages.Glow.{Glow}
 use Rattle.frame.specs.declared.messages.Glow.the-variants.{Off, On, Slow, Fast, VeryFast}
 use Rattle.frame.specs.declared.messages.Command.{Command}
 use Rattle.frame.specs.declared.messages.Command.the-variants.{TypeIr, TypeBl, Buttons, CellTold, BlockTold, CellAsked, BlockAsked, DumpAsked, CellSet, BlockSet, Errors, ErrorsAsked, NameOne, NameTwo, NameThree, NameAsked, StatusAsked, InputStatus, LedsAll, Leds, BlindStatus, BlindStop, BlindUp, BlindDown}
+use Rattle.picture.specs.Limits.{mostPlaces}
 use Rattle.picture.specs.Places.{yearPlace, ledPlace, blindPlace, characterPlace, cellPlace}
 
 -- what is said of a place
@@ -42,7 +43,7 @@ sayingsFrom says values i (suc n) = sayingOf (getD says i 0) (getD values i 0) �
 
 -- the sayings of a run, in the order of its places
 unfoldable pub sayings : Run → List Saying
-sayings r = sayingsFrom (r .says) (r .values) 0 (min 8 (r .count))
+sayings r = sayingsFrom (r .says) (r .values) 0 (min mostPlaces (r .count))
 
 -- what the run says of the place p
 unfoldable pub saidFrom : ℕ → List Saying → ℕ → Saying
@@ -57,13 +58,13 @@ abbrev pub run : ℕ → ℕ → List ℕ → List ℕ → Run
 run start count says values = record { start = start; count = count; says = says; values = values }
 
 abbrev pub noRun : Run
-noRun = run 0 0 (replicate 8 0) (replicate 8 0)
+noRun = run 0 0 (replicate mostPlaces 0) (replicate mostPlaces 0)
 
 abbrev pub telling : ℕ → ℕ → List ℕ → Run
-telling start count values = run start count (replicate 8 1) values
+telling start count values = run start count (replicate mostPlaces 1) values
 
 abbrev pub asking : ℕ → ℕ → Run
-asking start count = run start count (replicate 8 2) (replicate 8 0)
+asking start count = run start count (replicate mostPlaces 2) (replicate mostPlaces 0)
 
 -- the build
 abbrev pub buildTold : ℕ → ℕ → Run

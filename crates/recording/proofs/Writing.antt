@@ -21,7 +21,8 @@ use Rattle.laws.proofs.Stores.{sets-append}
 use Rattle.recording.specs.declared.writes.Put.{Put}
 use Rattle.recording.specs.declared.writes.Put.the-variants.{Wrote, Refused}
 use Rattle.laws.specs.Refusals.{tooShort, badNumber}
-use Rattle.recording.specs.Limits.{mostGap, gapGroups, wordGroups, mostIdentifier, mostRemote, mostCount}
+use Rattle.laws.specs.Limits.{mostIdentifier}
+use Rattle.recording.specs.Limits.{mostGap, gapGroups, wordGroups, mostRemote, mostCount}
 use Rattle.recording.specs.Number.{numberBytes}
 use Rattle.recording.specs.Write.{inRange, recordBytes, putAnswer, putBytes, placed}
 

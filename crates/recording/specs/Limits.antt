@@ -1,5 +1,6 @@
 -- The numbers that the paper fixes for recordings.
-use Prim.Native.Nat.{ℕ, _+_}
+use Prim.Native.Nat.{ℕ, _+_, _*_}
+use Rattle.laws.specs.Limits.{mostIdentifier, mostBytes}
 
 -- a gap in ms, up to
 abbrev pub mostGap : ℕ
@@ -9,25 +10,21 @@ mostGap = 268435455
 abbrev pub gapGroups : ℕ
 gapGroups = 4
 
+-- a remote flag up to
+abbrev pub mostRemote : ℕ
+mostRemote = 1
+
 -- the word, 2 × identifier + remote flag, up to
 abbrev pub mostWord : ℕ
-mostWord = 4095
+mostWord = 2 * mostIdentifier + mostRemote
 
 -- in so many groups
 abbrev pub wordGroups : ℕ
 wordGroups = 2
 
--- an identifier up to
-abbrev pub mostIdentifier : ℕ
-mostIdentifier = 2047
-
--- a remote flag up to
-abbrev pub mostRemote : ℕ
-mostRemote = 1
-
 -- a count of data bytes up to
 abbrev pub mostCount : ℕ
-mostCount = 8
+mostCount = mostBytes
 
 -- in so many groups
 abbrev pub countGroups : ℕ

@@ -7,7 +7,8 @@ use lib.ListN.{length, take, drop}
 use Rattle.recording.specs.declared.writes.Put.{Put}
 use Rattle.recording.specs.declared.writes.Put.the-variants.{Wrote, Refused}
 use Rattle.laws.specs.Refusals.{tooShort, badNumber}
-use Rattle.recording.specs.Limits.{mostGap, gapGroups, wordGroups, mostIdentifier, mostRemote, mostCount}
+use Rattle.laws.specs.Limits.{mostIdentifier}
+use Rattle.recording.specs.Limits.{mostGap, gapGroups, wordGroups, mostRemote, mostCount}
 use Rattle.recording.specs.Number.{numberBytes}
 
 -- every number of a record is in its range

@@ -14,11 +14,12 @@ use lib.ListN.{length, replicate, length-append}
 use Rattle.laws.proofs.Choices.{cond-elim}
 use Rattle.picture.specs.declared.Answer.{Answer}
 use Rattle.picture.specs.declared.Answer.the-variants.{Value, Refused}
-use Rattle.picture.specs.Places.{cell, nameLength}
+use Rattle.picture.specs.Places.{cell, nameLength, extentOf}
 use Rattle.picture.specs.Questions.{numberAnswer, typeAnswer, nameWhole, sumTo}
 use Rattle.picture.specs.Limits.{addresses}
+use Rattle.picture.specs.Limits.{notHeard}
 use Rattle.replay.specs.Replay.{one, isDone}
-use Rattle.replay.specs.Sheets.{wholeName, toldIf, toldCell, notHeard, wholeNames, toldCells}
+use Rattle.replay.specs.Sheets.{wholeName, toldIf, toldCell, wholeNames, toldCells}
 use Rattle.replay.specs.Lines.{header, brokenLine, countLine}
 use Rattle.replay.specs.Listing.{sheetText, typedText, moduleText, modulesText, faultText, listingText}
 use Rattle.replay.specs.TextStatements.{lineRoom, ListingFits}
@@ -59,7 +60,7 @@ unfolding moduleText sheetText
 module-short b address = go (typeAnswer b address)
   where
     go : (r : Answer) → length (typedText b address r) ≤ lineRoom
-    go (Value kind) = lines-are-short .1 (address % 256) (kind % 256) (wholeNames b address) (toldCells b address)
+    go (Value kind) = lines-are-short .1 (address % 256) (kind % 256) (wholeNames b address (extentOf kind .names)) (toldCells b address (extentOf kind .cells))
     go (Refused n) = omega arith
 
 modules-short : (b : List ℕ) (n : ℕ) → length (modulesText b n) ≤ lineRoom * n

@@ -7,13 +7,15 @@ use Rattle.picture.specs.declared.Answer.{Answer}
 use Rattle.picture.specs.declared.Answer.the-variants.{Value, Refused}
 use Rattle.picture.specs.Questions.{typeAnswer}
 use Rattle.picture.specs.Limits.{addresses}
+use Rattle.picture.specs.Places.{extentOf}
 use Rattle.replay.specs.declared.window.Stream.{Stream}
 use Rattle.replay.specs.Lines.{header, moduleLine, brokenLine, countLine}
 use Rattle.replay.specs.Sheets.{wholeNames, toldCells}
 
 -- the line of a listed module of a type
 unfoldable pub sheetText : List ℕ → ℕ → ℕ → List ℕ
-sheetText b address kind = moduleLine (address % 256) (kind % 256) (wholeNames b address) (toldCells b address)
+sheetText b address kind =
+    moduleLine (address % 256) (kind % 256) (wholeNames b address (extentOf kind .names)) (toldCells b address (extentOf kind .cells))
 
 -- by the answer to the question on its type: the module's line, or nothing where none is listed
 abbrev pub typedText : List ℕ → ℕ → Answer → List ℕ

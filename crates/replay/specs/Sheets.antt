@@ -6,21 +6,10 @@ use lib.Dec.{ltb}
 use lib.ListN.{replicate}
 use Rattle.picture.specs.declared.Answer.{Answer}
 use Rattle.picture.specs.declared.Answer.the-variants.{Value, Refused}
+use Rattle.picture.specs.Limits.{notHeard}
 use Rattle.picture.specs.Places.{cell, nameLength}
 use Rattle.picture.specs.Questions.{numberAnswer, nameWhole, sumTo}
 use Rattle.replay.specs.Replay.{one, isDone}
-
--- no module has more names
-abbrev pub mostNames : ℕ
-mostNames = 8
-
--- nor more cells
-abbrev pub mostCells : ℕ
-mostCells = 256
-
--- the number that stands for a place which is not heard
-abbrev pub notHeard : ℕ
-notHeard = 256
 
 -- 1 for a name that is whole: the question on it is answered
 unfoldable pub wholeName : List ℕ → ℕ → ℕ → ℕ
@@ -35,10 +24,10 @@ toldIf (Refused n) = 0
 unfoldable pub toldCell : List ℕ → ℕ → ℕ → ℕ
 toldCell b address location = toldIf (numberAnswer b address (cell location))
 
--- the whole names of a module
-unfoldable pub wholeNames : List ℕ → ℕ → ℕ
-wholeNames b address = sumTo (λ i. wholeName b address (i + 1)) mostNames
+-- of the names 1 to n, how many are whole
+abbrev pub wholeNames : List ℕ → ℕ → ℕ → ℕ
+wholeNames b address n = sumTo (λ i. wholeName b address (i + 1)) n
 
--- its told cells
-unfoldable pub toldCells : List ℕ → ℕ → ℕ
-toldCells b address = sumTo (toldCell b address) mostCells
+-- of the cells below n, how many are told
+abbrev pub toldCells : List ℕ → ℕ → ℕ → ℕ
+toldCells b address n = sumTo (toldCell b address) n

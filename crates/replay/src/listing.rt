@@ -19,8 +19,9 @@ const ADDRESSES: u32 = 256;
 fn put_sheet(picture: &[u8], out: &mut [u8], at: usize, address: u32, kind: u16) -> usize
     ensures { λ r. ⌜ Written (now (out .entry)) at (sheetText (now (picture .entry)) address kind) (now (out .exit)) r ⌝ }
 {
-    let names = whole_names(picture, address);
-    let cells = told_cells(picture, address);
+    let extent = picture::extent_for(kind as u32);
+    let names = whole_names(picture, address, extent.names);
+    let cells = told_cells(picture, address, extent.cells);
     put_module_line(
         out,
         at,

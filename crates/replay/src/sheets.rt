@@ -5,12 +5,8 @@ ghost use mathlib.Core.Path.{_≡_};
 ghost use Prim.Native.Nat.{_+_, _≤_};
 ghost use Rattle.replay.specs.Sheets.{wholeName, toldCell, wholeNames, toldCells};
 
-// The most names that a module has, the length of each, and the most cells.
-const MOST_NAMES: u32 = 8;
-
+// The length of a name.
 const NAME_LENGTH: usize = 16;
-
-const MOST_CELLS: u32 = 256;
 
 // The number for a place that is not heard.
 const NOT_HEARD: u16 = 256;
@@ -36,24 +32,26 @@ fn told_cell(picture: &[u8], address: u32, location: u32) -> u64
     }
 }
 
-pub fn whole_names(picture: &[u8], address: u32) -> u64
-    ensures { λ r. ⌜ r ≡ wholeNames (now (picture .entry)) address ⌝ }
+// Of the names 1 to n, how many are whole.
+pub fn whole_names(picture: &[u8], address: u32, n: u32) -> u64
+    ensures { λ r. ⌜ r ≡ wholeNames (now (picture .entry)) address n ⌝ }
 {
     let mut count: u64 = 0;
     let mut i: u32 = 0;
-    while i < MOST_NAMES {
+    while i < n {
         count = count + whole_name(picture, address, i + 1);
         i += 1;
     }
     count
 }
 
-pub fn told_cells(picture: &[u8], address: u32) -> u64
-    ensures { λ r. ⌜ r ≡ toldCells (now (picture .entry)) address ⌝ }
+// Of the cells below n, how many are told.
+pub fn told_cells(picture: &[u8], address: u32, n: u32) -> u64
+    ensures { λ r. ⌜ r ≡ toldCells (now (picture .entry)) address n ⌝ }
 {
     let mut count: u64 = 0;
     let mut i: u32 = 0;
-    while i < MOST_CELLS {
+    while i < n {
         count = count + told_cell(picture, address, i);
         i += 1;
     }

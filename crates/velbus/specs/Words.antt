@@ -8,8 +8,12 @@ use Rattle.picture.specs.declared.Outcome.the-variants as o
 use Rattle.picture.specs.declared.Answer.{Answer}
 use Rattle.picture.specs.declared.Answer.the-variants as a
 
+-- how many values there are
+abbrev pub values : ℕ
+values = 65536
+
 abbrev pub refusedWord : ℕ → ℕ
-refusedWord number = 65536 * number
+refusedWord number = values * number
 
 -- done is the value 0
 abbrev pub outcomeWord : Outcome → ℕ

@@ -2,7 +2,8 @@
 use mathlib.Core.Path.{sym}
 use native.Mathlib.Omega.{arith}
 use borrow.Author.Tests.{le-leb, lt-leb}
-use Rattle.recording.specs.Limits.{mostGap, mostIdentifier, mostRemote, mostCount}
+use Rattle.laws.specs.Limits.{mostIdentifier}
+use Rattle.recording.specs.Limits.{mostGap, mostRemote, mostCount}
 use Rattle.recording.specs.Write.{inRange}
 use Rattle.recording.proofs.Writing.{in-range}
 use Rattle.recording.proofs.writes.in_range.Statement.{statement}

@@ -1,10 +1,13 @@
 -- `replay::listing::put_sheet` meets its contract. Assumes nothing.
 use Prim.Native.Nat.{ℕ, _%_}
-use mathlib.Core.Path.{subst}
+use mathlib.Core.Path.{_≡_, ap, subst, _∙_}
 use mathlib.Core.List.{List}
 use borrow.Author.Needs.{needs}
+use Rattle.picture.specs.declared.Extent.{Extent}
+use Rattle.picture.specs.Places.{extentOf}
 use Rattle.replay.specs.Text.{Written}
 use Rattle.replay.specs.Lines.{moduleLine}
+use Rattle.replay.specs.Sheets.{wholeNames, toldCells}
 use Rattle.replay.specs.Listing.{sheetText}
 use Rattle.replay.proofs.listing.put_sheet.Statement.{statement}
 use Rattle.replay.proofs.listing.put_sheet.Tie as tie
@@ -12,15 +15,20 @@ use Rattle.replay.proofs.listing.put_sheet.Tie as tie
 returns : tie.Need-returns
 unfolding sheetText
 returns c =
-    let a = c .before .before .before .before .before .before .before .before .args in
+    let told = c .before .before .before .before in
+    let a = told .before .before .before .before .before .args in
     let p = c .before .before .put-module-line in
-    subst (λ (text : List ℕ). Written (a .out .now) (a .at) text (p .last .0) (p .result))
-    (λ i. moduleLine (a .address % 256) (a .kind % 256) (c .before .before .before .before .before .whole-names .ensures i) (c .before .before .before .before .told-cells .ensures i)) (p .ensures)
+    let e = told .before .before .extent-for .ensures in
+    let names = told .before .whole-names .ensures ∙ ap (λ (x : Extent). wholeNames (a .picture .now) (a .address) (x .names)) e in
+    let cells = told .told-cells .ensures ∙ ap (λ (x : Extent). toldCells (a .picture .now) (a .address) (x .cells)) e in
+    subst (λ (text : List ℕ). Written (a .out .now) (a .at) text (p .last .0) (p .result)) (λ i. moduleLine (a .address % 256) (a .kind % 256) (names i) (cells i))
+    (p .ensures)
 
 pub put-sheet-spec : {M : Type 1} → statement M
 put-sheet-spec =
     tie.close
     (tie.spec
+    (λ c κs. search needs)
     (λ c κs. search needs)
     (λ c κs. search needs)
     (λ c. search needs)

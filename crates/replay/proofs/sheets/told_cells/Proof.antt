@@ -4,16 +4,16 @@ use mathlib.Core.Path.{_≡_, ap, sym, _∙_}
 use native.Mathlib.Omega.{arith}
 use borrow.Author.Needs.{needs}
 use Rattle.picture.specs.Questions.{sumTo}
-use Rattle.replay.specs.Sheets.{toldCell, toldCells}
+use Rattle.replay.specs.Sheets.{toldCell}
 use Rattle.replay.proofs.Listings.{told-small, sum-none, sum-more}
 use Rattle.replay.proofs.sheets.told_cells.Statement.{statement}
 use Rattle.replay.proofs.sheets.told_cells.Tie as tie
 
 abbrev Inv-loop : tie.InvT-loop
-Inv-loop picture address count₀ i₀ count i = (i ≤ 256) × (count ≤ i) × (count ≡ sumTo (toldCell picture address) i)
+Inv-loop picture address n count₀ i₀ count i = (i ≤ n) × (count ≤ i) × (count ≡ sumTo (toldCell picture address) i)
 
 abbrev μ-loop : tie.MeasureT-loop
-μ-loop picture address count₀ i₀ count i = 256 - i
+μ-loop picture address n count₀ i₀ count i = n - i
 
 loop-holds : tie.Need-loop-holds Inv-loop μ-loop
 loop-holds c = let a = c .before .args in (omega arith, omega arith, sym (sum-none (toldCell (a .picture .now) (a .address))))
@@ -32,11 +32,10 @@ loop-again c =
     (omega arith, omega (arith, small c), (λ k. l .inv .2 k + c .told-cell .ensures k) ∙ sym (sum-more (toldCell (a .picture .now) (a .address)) (l .i)))
 
 returns : tie.Need-returns Inv-loop μ-loop
-unfolding toldCells
 returns c =
     let l = c .before .loop in
     let a = c .before .before .before .args in
-    let e : l .i ≡ 256 = omega arith in
+    let e : l .i ≡ a .n = omega arith in
     l .inv .2 ∙ ap (sumTo (toldCell (a .picture .now) (a .address))) e
 
 pub told-cells-spec : {M : Type 1} → statement M

@@ -4,16 +4,16 @@ use mathlib.Core.Path.{_≡_, ap, sym, _∙_}
 use native.Mathlib.Omega.{arith}
 use borrow.Author.Needs.{needs}
 use Rattle.picture.specs.Questions.{sumTo}
-use Rattle.replay.specs.Sheets.{wholeName, wholeNames}
+use Rattle.replay.specs.Sheets.{wholeName}
 use Rattle.replay.proofs.Listings.{whole-small, sum-none, sum-more}
 use Rattle.replay.proofs.sheets.whole_names.Statement.{statement}
 use Rattle.replay.proofs.sheets.whole_names.Tie as tie
 
 abbrev Inv-loop : tie.InvT-loop
-Inv-loop picture address count₀ i₀ count i = (i ≤ 8) × (count ≤ i) × (count ≡ sumTo (λ i. wholeName picture address (i + 1)) i)
+Inv-loop picture address n count₀ i₀ count i = (i ≤ n) × (count ≤ i) × (count ≡ sumTo (λ i. wholeName picture address (i + 1)) i)
 
 abbrev μ-loop : tie.MeasureT-loop
-μ-loop picture address count₀ i₀ count i = 8 - i
+μ-loop picture address n count₀ i₀ count i = n - i
 
 loop-holds : tie.Need-loop-holds Inv-loop μ-loop
 loop-holds c = let a = c .before .args in (omega arith, omega arith, sym (sum-none (λ i. wholeName (a .picture .now) (a .address) (i + 1))))
@@ -32,11 +32,10 @@ loop-again c =
     (omega arith, omega (arith, small c), (λ k. l .inv .2 k + c .whole-name .ensures k) ∙ sym (sum-more (λ i. wholeName (a .picture .now) (a .address) (i + 1)) (l .i)))
 
 returns : tie.Need-returns Inv-loop μ-loop
-unfolding wholeNames
 returns c =
     let l = c .before .loop in
     let a = c .before .before .before .args in
-    let e : l .i ≡ 8 = omega arith in
+    let e : l .i ≡ a .n = omega arith in
     l .inv .2 ∙ ap (sumTo (λ i. wholeName (a .picture .now) (a .address) (i + 1))) e
 
 pub whole-names-spec : {M : Type 1} → statement M
