@@ -1,5 +1,5 @@
 -- The orders of a record put into a buffer, and of the calls from C. Assumes nothing.
-use Prim.Native.Nat.{ℕ, _+_, _*_, _%_, _<_}
+use Prim.Native.Nat.{ℕ, _+_, _%_, _<_}
 use native.Mathlib.Omega.{arith}
 use mathlib.Core.Path.{_≡_, refl, ap}
 use mathlib.Core.Logic.{_≢_}
@@ -8,7 +8,7 @@ use mathlib.Core.Bool.{cond}
 use lib.Dec.{ltb, leb}
 use lib.ListN.{length}
 use lib.Seq.{sets}
-use Rattle.laws.specs.Refusals.{typeNotKnown, tooShort, badNumber}
+use Rattle.laws.specs.Refusals.{tooShort, badNumber}
 use Rattle.laws.specs.Copies.{copiedIn}
 use Rattle.frame.specs.Reading.{reading}
 use Rattle.frame.specs.Writing.{writing}
@@ -20,10 +20,6 @@ use Rattle.picture.specs.declared.Outcome.{Outcome}
 use Rattle.picture.specs.declared.Outcome.the-variants as outcome
 use Rattle.picture.specs.declared.Answer.{Answer}
 use Rattle.picture.specs.declared.Answer.the-variants as answer
-use Rattle.picture.specs.Limits.{room}
-use Rattle.picture.specs.Places.{extentOf}
-use Rattle.picture.specs.Bytes.{short}
-use Rattle.picture.specs.Questions.{slotAsked, typeIn, typeAnswer}
 use Rattle.recording.specs.declared.writes.Put.{Put}
 use Rattle.recording.specs.declared.writes.Put.the-variants as put
 use Rattle.recording.specs.Write.{inRange, recordBytes, putCase, placed, putAnswer, putBytes}
@@ -36,10 +32,9 @@ use Rattle.velbus.specs.Recordings.{putWord}
 use Rattle.velbus.specs.Parts.{partsOf}
 use Rattle.velbus.specs.Layout.{messageSize, laidBytes, heldIn}
 use Rattle.velbus.specs.Frames.{frameSize, frameBytes, readWord, readInto, writtenWord, writtenInto, heldWord, heldInto, writeWord, writeInto}
-use Rattle.velbus.specs.Rows.{valueOf, cellNumber, rowTo, typedWord, typedRow, rowWord, rowInto}
-use Rattle.demands.specs.Order.{Test, _or_, Verdict, answers, refuses, verdict, readerOrder, writerOrder, kindAsked, rowTest, cellsAsked, memoryBytesOrder, putOrder, heldOrder, writeOrder}
-use Rattle.demands.specs.Demand1.{ofReading, ofWriting, ofOutcome, ofAnswer, ofPut, wordOf, Decided, Word, Recordings, Words}
-use Rattle.demands.proofs.Orders.{answers-refuses, by-test, by-fault, choice-test, choice-fault, answered-then, refused-then}
+use Rattle.demands.specs.Order.{Test, _or_, Verdict, answers, refuses, verdict, readerOrder, writerOrder, putOrder, heldOrder, writeOrder}
+use Rattle.demands.specs.Demand1.{ofReading, ofWriting, ofOutcome, ofAnswer, valueOf, ofPut, wordOf, Decided, Word, Recordings, Words}
+use Rattle.demands.proofs.Orders.{answers-refuses, by-test, by-fault, answered-then, refused-then}
 use Rattle.demands.proofs.FrameOrders.{reads, writes}
 
 -- ---- records
@@ -107,29 +102,6 @@ module _ (kind : ℕ) (out : List ℕ) where
       (λ c. cond c (refusedWord tooShort) (heldWord kind (heldIn message) (length out))) (λ c. cond c out (heldInto kind (heldIn message) out))
       (ltb (length message) messageSize) (held-order (heldIn message)) refl refl
 
--- the memory row, by the question on the type
-module _ (b : List ℕ) (a : ℕ) (out : List ℕ) where
-  abbrev given : Answer → ℕ
-  given x = rowWord x (length out)
-
-  abbrev filled : Answer → List ℕ
-  filled x = rowInto b a x out
-
-  typed-order : (kind : ℕ) → Word 0 (rowTest (2 * extentOf kind .cells) out ∷ []) out (typedWord kind (length out)) (typedRow b a kind out)
-  unfolding typedWord typedRow
-  typed-order kind =
-      by-test (λ v. wordOf v 0) out tooShort [] (λ c. cond c 0 (refusedWord tooShort)) (λ c. cond c (rowTo (cellNumber b a) out (extentOf kind .cells)) out)
-      (leb (2 * extentOf kind .cells) (length out)) (record { decides = refl; keeps = λ n e. answers-refuses e }) refl refl
-
-  row-order : Word 0 (memoryBytesOrder b a out) out (given (typeAnswer b a)) (filled (typeAnswer b a))
-  unfolding typeAnswer
-  row-order =
-      choice-fault (λ v. wordOf v 0) out given filled tooShort (ltb (slotAsked b a) room or typeNotKnown ∷ rowTest (2 * cellsAsked b a) out ∷ [])
-      (typeIn b (slotAsked b a)) (answer.Refused tooShort) (short b)
-      (choice-test (λ v. wordOf v 0) out given filled typeNotKnown (rowTest (2 * cellsAsked b a) out ∷ [])
-      (answer.Value (kindAsked b a)) (answer.Refused typeNotKnown) (ltb (slotAsked b a) room) (typed-order (kindAsked b a)) refl refl)
-      refl refl
-
 apart : (value n : ℕ) → value < values → 0 < n → value ≢ refusedWord n
 apart value n h k e = omega arith
 
@@ -152,5 +124,4 @@ words =
       read = λ kind identifier remote s out.
           read-then (readerOrder kind identifier remote s) out (reading kind identifier remote s) (reads kind identifier remote s);
       write = λ kind message out. write-order kind out message;
-      memory-row = row-order;
     }

@@ -55,11 +55,11 @@ module _ {B : Type 0} (says : Verdict → B) (before : List ℕ) (n : ℕ) (ts :
 
 -- where the call chooses between two outcomes, the second of them the refusal
 module _ {A B : Type 0} (says : Verdict → B) (before : List ℕ) (given : A → B) (after : A → List ℕ) (n : ℕ) (ts : List Test) (x y : A) where
-  pub choice-test : (t : Bool) → Decided says ts before (given x) (after x) → given y ≡ says (refuses n) → after y ≡ before
+  choice-test : (t : Bool) → Decided says ts before (given x) (after x) → given y ≡ says (refuses n) → after y ≡ before
       → Decided says (t or n ∷ ts) before (given (cond t x y)) (after (cond t x y))
   choice-test t = by-test says before n ts (λ c. given (cond c x y)) (λ c. after (cond c x y)) t
 
-  pub choice-fault : (t : Bool) → Decided says ts before (given x) (after x) → given y ≡ says (refuses n) → after y ≡ before
+  choice-fault : (t : Bool) → Decided says ts before (given x) (after x) → given y ≡ says (refuses n) → after y ≡ before
       → Decided says (not t or n ∷ ts) before (given (cond t y x)) (after (cond t y x))
   choice-fault t = by-fault says before n ts (λ c. given (cond c y x)) (λ c. after (cond c y x)) t
 

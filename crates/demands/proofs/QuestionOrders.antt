@@ -1,5 +1,5 @@
 -- The orders of the questions on a picture. Assumes nothing.
-use Prim.Native.Nat.{ℕ}
+use Prim.Native.Nat.{ℕ, _*_}
 use mathlib.Core.Path.{_≡_, refl}
 use mathlib.Core.List.{List, [], _∷_}
 use mathlib.Core.Bool.{cond}
@@ -12,8 +12,8 @@ use Rattle.picture.specs.Limits.{room, addresses}
 use Rattle.picture.specs.Places.{places, nameLength, Asked, placeAsked, hasName}
 use Rattle.picture.specs.Result.{Result, refusing}
 use Rattle.picture.specs.Bytes.{short, kindIn}
-use Rattle.picture.specs.Questions.{slotAsked, keptAnswer, typeAnswer, placeIn, numberIn, numberAnswer, filledTo, filling, listedIf, listing, characterHeard, heardIn, nameHeard, sumTo, nameFrom, nameIn, nameWhole, cellValue, memoryIn, memoryRow}
-use Rattle.demands.specs.Order.{Test, _or_, verdict, pictureTest, moduleOrder, rowTest, listedOrder, numberOrder, nameOrder, wholeOrder, cellsAsked, memoryOrder}
+use Rattle.picture.specs.Questions.{slotAsked, keptAnswer, typeAnswer, placeIn, numberIn, numberAnswer, filledTo, filling, listedIf, listing, characterHeard, heardIn, nameHeard, sumTo, nameFrom, nameIn, nameWhole, cellValue, rowByte, memoryIn, memoryRow, memoryBytesIn, memoryBytes}
+use Rattle.demands.specs.Order.{Test, _or_, verdict, pictureTest, moduleOrder, rowTest, listedOrder, numberOrder, nameOrder, wholeOrder, cellsAsked, memoryOrder, memoryBytesOrder}
 use Rattle.demands.specs.Demand1.{ofAnswer, Call, Questions}
 use Rattle.demands.proofs.Orders.{call-test, call-fault, call-done, answer-test, answer-fault}
 
@@ -61,6 +61,10 @@ module _ (b : List ℕ) (a : ℕ) where
   unfolding memoryRow memoryIn
   memory-order out = asks-row b a _ out _ (fills (cellValue b slot) (cellsAsked b a) out)
 
+  bytes-order : (out : List ℕ) → Call (memoryBytesOrder b a out) out (memoryBytes b a out)
+  unfolding memoryBytes memoryBytesIn
+  bytes-order out = asks-row b a _ out _ (fills (rowByte (cellValue b slot)) (2 * cellsAsked b a) out)
+
   module _ (name : ℕ) (out : List ℕ) where
     heard-order : Call (nameOrder b a name out []) out (nameHeard b a name out)
     unfolding nameHeard heardIn
@@ -86,4 +90,5 @@ questions =
       name-heard = heard-order;
       name = whole-order;
       memory-row = memory-order;
+      memory-bytes = bytes-order;
     }

@@ -21,7 +21,7 @@ use Rattle.picture.specs.declared.Answer.the-variants as answer
 use Rattle.picture.specs.Places.{Asked}
 use Rattle.picture.specs.Result.{Result}
 use Rattle.picture.specs.Bytes.{freshening, hearing, steppingBack}
-use Rattle.picture.specs.Questions.{keptAnswer, typeAnswer, numberAnswer, listing, nameHeard, nameWhole, memoryRow}
+use Rattle.picture.specs.Questions.{keptAnswer, typeAnswer, numberAnswer, listing, nameHeard, nameWhole, memoryRow, memoryBytes}
 use Rattle.recording.specs.declared.writes.Put.{Put}
 use Rattle.recording.specs.declared.writes.Put.the-variants as put
 use Rattle.recording.specs.Write.{recordBytes, putAnswer, putBytes}
@@ -30,7 +30,6 @@ use Rattle.velbus.specs.Words.{values, refusedWord, outcomeWord, answerWord}
 use Rattle.velbus.specs.Recordings.{putWord}
 use Rattle.velbus.specs.Layout.{messageSize}
 use Rattle.velbus.specs.Frames.{frameSize, readWord, readInto, writeWord, writeInto}
-use Rattle.velbus.specs.Rows.{valueOf, rowWord, rowInto}
 use Rattle.demands.specs.Order.{Test, Verdict, answers, refuses, verdict, readerOrder, writerOrder, pictureTest, hearingOrder, backOrder, moduleOrder, listedOrder, numberOrder, nameOrder, wholeOrder, memoryOrder, memoryBytesOrder, putOrder, readOrder, writeOrder}
 
 -- ---- what each kind of answer comes to
@@ -58,6 +57,11 @@ ofPut (put.Refused n) = refuses n
 abbrev pub wordOf : Verdict → ℕ → ℕ
 wordOf answers value = value
 wordOf (refuses n) value = refusedWord n
+
+-- the value of an answer that is a number
+abbrev pub valueOf : Answer → ℕ
+valueOf (answer.Value v) = v
+valueOf (answer.Refused n) = 0
 
 -- ---- calls that are lent a buffer
 -- what is given is what the verdict of the call's tests says, and a refusal leaves the buffer as it was
@@ -96,6 +100,7 @@ pub record Questions : Type 0 where
   pub name-heard : (b : List ℕ) (a name : ℕ) (out : List ℕ) → Call (nameOrder b a name out []) out (nameHeard b a name out)
   pub name : (b : List ℕ) (a name : ℕ) (out : List ℕ) → Call (wholeOrder b a name out) out (nameWhole b a name out)
   pub memory-row : (b : List ℕ) (a : ℕ) (out : List ℕ) → Call (memoryOrder b a out) out (memoryRow b a out)
+  pub memory-bytes : (b : List ℕ) (a : ℕ) (out : List ℕ) → Call (memoryBytesOrder b a out) out (memoryBytes b a out)
 
 -- recordings: a record put; and one read, where the first fault decides: 15 at the input's end, or 16 at its byte, whatever follows
 pub record Recordings : Type 0 where
@@ -109,7 +114,7 @@ pub record Recordings : Type 0 where
 pub record Words : Type 0 where
   -- no value is a refusal
   pub apart : (value n : ℕ) → value < values → 0 < n → value ≢ refusedWord n
-  -- velbus_fresh, hear, step_back, listed, name_heard, name
+  -- velbus_fresh, hear, step_back, listed, name_heard, name, memory_row
   pub of-outcome : (o : Outcome) → outcomeWord o ≡ wordOf (ofOutcome o) 0
   -- velbus_kept, type, build_year, build_week, cell, led, blind
   pub of-answer : (a : Answer) → answerWord a ≡ wordOf (ofAnswer a) (valueOf a)
@@ -121,8 +126,6 @@ pub record Words : Type 0 where
       (readWord (reading kind identifier remote s) (length out)) (readInto (reading kind identifier remote s) out)
   pub write : (kind : ℕ) (message out : List ℕ)
       → Word frameSize (writeOrder kind message (length out)) out (writeWord kind message (length out)) (writeInto kind message out)
-  pub memory-row : (b : List ℕ) (a : ℕ) (out : List ℕ)
-      → Word 0 (memoryBytesOrder b a out) out (rowWord (typeAnswer b a) (length out)) (rowInto b a (typeAnswer b a) out)
 
 pub record Demand1 : Type 0 where
   pub frames : Frames

@@ -1,5 +1,5 @@
 -- Every question on the bytes is answered as the standing frames tell, where the machine's modules show what they tell. Assumes nothing.
-use Prim.Native.Nat.{ℕ, zero, suc, _+_, _<_, _≤_}
+use Prim.Native.Nat.{ℕ, zero, suc, _+_, _*_, _/_, _<_, _≤_}
 use native.Mathlib.Omega.{arith}
 use mathlib.Core.Path.{_≡_, refl, sym, ap, _∙_}
 use mathlib.Core.Bool.{Bool, true, false, cond}
@@ -19,9 +19,9 @@ use Rattle.picture.specs.Places.{places, Asked, placeAsked, hasName, nameLength
 use Rattle.picture.specs.Limits.{room, addresses}
 use Rattle.history.specs.Standing.{Frame, Known, unknown, told, typeOf, latest}
 use Rattle.picture.specs.Result.{refusing, done}
-use Rattle.history.specs.Asked.{numberOf, heardOf, toldType, toldNumber, over, filled, yesIf, toldListed, characterOf, toldHeard, andHeard, allHeard, named, toldName, toldMemory}
+use Rattle.history.specs.Asked.{numberOf, heardOf, toldType, toldNumber, over, filled, yesIf, toldListed, characterOf, toldHeard, andHeard, allHeard, named, toldName, toldMemory, toldMemoryBytes}
 use Rattle.picture.specs.Bytes.{short, noSlot, slotOf, kindIn}
-use Rattle.picture.specs.Questions.{slotAsked, valueAt, heardAt, typeIn, typeAnswer, placeIn, numberIn, numberAnswer, filledTo, filling, listedIf, listing, characterAt, characterHeard, characterValue, heardIn, nameHeard, sumTo, nameFrom, nameIn, nameWhole, memoryIn, memoryRow}
+use Rattle.picture.specs.Questions.{slotAsked, valueAt, heardAt, typeIn, typeAnswer, placeIn, numberIn, numberAnswer, filledTo, filling, listedIf, listing, characterAt, characterHeard, characterValue, heardIn, nameHeard, sumTo, nameFrom, nameIn, nameWhole, cellValue, rowByte, memoryIn, memoryRow, memoryBytesIn, memoryBytes}
 use Rattle.history.specs.Demand3.{Tells}
 use Rattle.history.specs.Machine.{Module, find, slot}
 use Rattle.history.specs.Refinement.{knownOf, knownAt, moduleAt, stateOf, Good}
@@ -202,6 +202,10 @@ module _ (b : List ℕ) (S : List Frame) (good : Good b) (shown : Shows (stateOf
           go true e = filling-filled (characterHeard b s name) (λ i. heardOf (characterOf kind name (latest S a) i)) nameLength out (λ i l. character-heard a s kind name i at e l)
           go false e = refl
 
+  -- the cells that the type has
+  cell-known : (a s kind i : ℕ) → Seen b S a s kind → i < extentOf kind .cells → cellValue b s i ≡ numberOf (latest S a (cellPlace kind i))
+  cell-known a s kind i at l = value-known b _ ∙ ap numberOf (at .known-is (cellPlace kind i) (omega (arith, extents-small kind .cells-small)))
+
   memory-told : (a : ℕ) (out : List ℕ) → memoryRow b a out ≡ toldMemory (typeOf S a) (latest S a) out
   unfolding memoryRow memoryIn toldMemory
   memory-told a out = by-address a _ (λ s. memoryIn b s out) (λ t. toldMemory t (latest S a) out) refl listed
@@ -210,7 +214,17 @@ module _ (b : List ℕ) (S : List Frame) (good : Good b) (shown : Shows (stateOf
       listed s kind at =
           rw (lt-ltb s room (at .there), at .kind-is)
           (filling-filled _ (λ l. numberOf (latest S a (cellPlace kind l))) (extentOf kind .cells) out
-          (λ i l. value-known b _ ∙ ap numberOf (at .known-is (cellPlace kind i) (omega (arith, extents-small kind .cells-small)))))
+          (λ i l. cell-known a s kind i at l))
+
+  bytes-told : (a : ℕ) (out : List ℕ) → memoryBytes b a out ≡ toldMemoryBytes (typeOf S a) (latest S a) out
+  unfolding memoryBytes memoryBytesIn toldMemoryBytes
+  bytes-told a out = by-address a _ (λ s. memoryBytesIn b s out) (λ t. toldMemoryBytes t (latest S a) out) refl listed
+    where
+      listed : (s kind : ℕ) → Seen b S a s kind → memoryBytesIn b s out ≡ toldMemoryBytes (some kind) (latest S a) out
+      listed s kind at =
+          rw (lt-ltb s room (at .there), at .kind-is)
+          (filling-filled (rowByte (cellValue b s)) (rowByte (λ l. numberOf (latest S a (cellPlace kind l)))) (2 * extentOf kind .cells) out
+          (λ j l. ap (λ (v : ℕ). rowByte (λ _. v) j) (cell-known a s kind (j / 2) at (omega arith))))
 
   -- the whole name
   name-listed : (a s kind name : ℕ) (out : List ℕ) → Seen b S a s kind → hasName kind name ≡ true
@@ -262,4 +276,4 @@ module _ (b : List ℕ) (S : List Frame) (good : Good b) (shown : Shows (stateOf
           go false e = refl
 
   pub tells : (a : ℕ) → Tells b a (typeOf S a) (latest S a)
-  tells a = record { type-of = type-told a; number = number-told a; heard = heard-told a; name-of = name-told a; memory = memory-told a }
+  tells a = record { type-of = type-told a; number = number-told a; heard = heard-told a; name-of = name-told a; memory = memory-told a; memory-bytes = bytes-told a }

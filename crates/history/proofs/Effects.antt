@@ -31,6 +31,7 @@ alike b c a t known x y =
       heard = λ name out. x .heard name out ∙ sym (y .heard name out);
       name-of = λ name out. x .name-of name out ∙ sym (y .name-of name out);
       memory = λ out. x .memory out ∙ sym (y .memory out);
+      memory-bytes = λ out. x .memory-bytes out ∙ sym (y .memory-bytes out);
     }
 
 -- what is told may be put otherwise

@@ -1,6 +1,6 @@
 -- The answers to the questions, as the standing frames tell them: `t` is the type that they tell of the address asked, `known` what they tell of each
 -- of its places. A reader must believe these definitions. Assumes nothing.
-use Prim.Native.Nat.{ℕ, zero, suc, _+_}
+use Prim.Native.Nat.{ℕ, zero, suc, _+_, _*_}
 use mathlib.Core.Bool.{Bool, true, false, cond}
 use mathlib.Core.List.{List, _++_}
 use mathlib.Core.Option.{Option, none, some}
@@ -13,6 +13,7 @@ use Rattle.picture.specs.declared.Answer.the-variants.{Value, Refused}
 use Rattle.picture.specs.Places.{Asked, placeAsked, places, hasName, nameLength, characterPlace, cellPlace, extentOf}
 use Rattle.picture.specs.Result.{Result, refusing, done}
 use Rattle.picture.specs.Limits.{addresses, notHeard}
+use Rattle.picture.specs.Questions.{rowByte}
 use Rattle.history.specs.Standing.{Frame, Known, unknown, told, typeOf}
 
 -- numbers of what is known: the value, or notHeard; and 1 for told, 0 for not heard
@@ -87,3 +88,8 @@ toldName (some kind) name known out =
 unfoldable pub toldMemory : Option ℕ → (ℕ → Known) → List ℕ → Result
 toldMemory none known out = refusing typeNotKnown out
 toldMemory (some kind) known out = filled (tab (extentOf kind .cells) (λ location. numberOf (known (cellPlace kind location)))) out
+
+-- the same row as bytes: two for each number, low byte first
+unfoldable pub toldMemoryBytes : Option ℕ → (ℕ → Known) → List ℕ → Result
+toldMemoryBytes none known out = refusing typeNotKnown out
+toldMemoryBytes (some kind) known out = filled (tab (2 * extentOf kind .cells) (rowByte (λ location. numberOf (known (cellPlace kind location))))) out

@@ -13,9 +13,9 @@ use Rattle.picture.specs.Places.{places, Asked}
 use Rattle.picture.specs.Limits.{addresses}
 use Rattle.history.specs.Standing.{Frame, Known, unknown, typeOf, latest, listed, Event, hear, back, standing, kept, answered, outcomeOf}
 use Rattle.picture.specs.Result.{Result}
-use Rattle.history.specs.Asked.{yesIf, toldType, toldNumber, toldListed, toldHeard, toldName, toldMemory}
+use Rattle.history.specs.Asked.{yesIf, toldType, toldNumber, toldListed, toldHeard, toldName, toldMemory, toldMemoryBytes}
 use Rattle.picture.specs.Bytes.{hearing, steppingBack, freshening}
-use Rattle.picture.specs.Questions.{keptAnswer, typeAnswer, numberAnswer, listing, nameHeard, nameWhole, memoryRow}
+use Rattle.picture.specs.Questions.{keptAnswer, typeAnswer, numberAnswer, listing, nameHeard, nameWhole, memoryRow, memoryBytes}
 use Rattle.history.specs.Machine.{Module, run, step, find, kindOf}
 
 -- ---- the machine
@@ -68,6 +68,7 @@ pub record Tells (b : List ℕ) (a : ℕ) (t : Option ℕ) (known : ℕ → Know
   pub heard : (name : ℕ) (out : List ℕ) → nameHeard b a name out ≡ toldHeard t name known out
   pub name-of : (name : ℕ) (out : List ℕ) → nameWhole b a name out ≡ toldName t name known out
   pub memory : (out : List ℕ) → memoryRow b a out ≡ toldMemory t known out
+  pub memory-bytes : (out : List ℕ) → memoryBytes b a out ≡ toldMemoryBytes t known out
 
 -- every question, and the answer to every next event
 pub record Answers (b : List ℕ) (h : List Event) : Type 0 where

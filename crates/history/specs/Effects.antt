@@ -19,7 +19,7 @@ use Rattle.picture.specs.Runs.{Run, said, runOf, typeEntered}
 use Rattle.picture.specs.Fitting.{heardAs}
 use Rattle.picture.specs.Limits.{room}
 use Rattle.history.specs.Standing.{Frame, address, Meaning, refuses, names, enters, meaning, Known, unknown, after, typeOf, latest, listed, accepted, judgement, Event, hear, back, standing, kept}
-use Rattle.picture.specs.Questions.{typeAnswer, numberAnswer, listing, nameHeard, nameWhole, memoryRow}
+use Rattle.picture.specs.Questions.{typeAnswer, numberAnswer, listing, nameHeard, nameWhole, memoryRow, memoryBytes}
 use Rattle.history.specs.Demand3.{doing, runBytes, Tells}
 
 -- Every question on the address a is answered alike.
@@ -29,6 +29,7 @@ pub record Alike (b c : List ℕ) (a : ℕ) : Type 0 where
   pub heard : (name : ℕ) (out : List ℕ) → nameHeard b a name out ≡ nameHeard c a name out
   pub name-of : (name : ℕ) (out : List ℕ) → nameWhole b a name out ≡ nameWhole c a name out
   pub memory : (out : List ℕ) → memoryRow b a out ≡ memoryRow c a out
+  pub memory-bytes : (out : List ℕ) → memoryBytes b a out ≡ memoryBytes c a out
 
 -- What the bytes then tell of the frame's own address, by what the frame means: each place that it names holds what it says, and every other place
 -- what it held; an entry begins with every place unknown.

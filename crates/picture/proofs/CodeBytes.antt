@@ -5,20 +5,21 @@ use native.Mathlib.Omega.{arith}
 use native.Mathlib.Numerals.{add-one}
 use mathlib.Core.Path.{_≡_, refl, _∙_}
 use mathlib.Core.List.{List}
-use lib.ListN.{getD, set}
+use lib.ListN.{set}
 use Rattle.picture.specs.Layout.{placeAt}
 use Rattle.picture.specs.Places.{places}
 use Rattle.picture.specs.Bytes.{pair, blanked, copied, zeroed}
 
 -- ---- loops that store one place more with each turn
-module _ (b : List ℕ) (o n : ℕ) {x y : List ℕ} where
-  pub copied-more : (from : ℕ) {v : ℕ} → x ≡ copied b o from n → v ≡ getD x (from + n) 0 → y ≡ set x (o + n) v → y ≡ copied b o from (n + 1)
-  unfolding copied
-  copied-more from p e q = rw (add-one, ← p, ← e) q
-
-  pub blanked-more : {v t : ℕ} → x ≡ blanked b o n → v ≡ 0 → t ≡ 0 → y ≡ pair x (o + 2 * n) v t → y ≡ blanked b o (n + 1)
-  unfolding blanked
-  blanked-more p d e q = rw (add-one, ← p) (rw (d, e) at q)
+pub blanked-more :
+    (b : List ℕ) (o n : ℕ) {x y : List ℕ} {v t : ℕ} →
+    x ≡ blanked b o n →
+    v ≡ 0 →
+    t ≡ 0 →
+    y ≡ pair x (o + 2 * n) v t →
+    y ≡ blanked b o (n + 1)
+unfolding blanked
+blanked-more b o n p d e q = rw (add-one, ← p) (rw (d, e) at q)
 
 pub zeroed-more : (b : List ℕ) (n : ℕ) {x y : List ℕ} → x ≡ zeroed b n → y ≡ set x n 0 → y ≡ zeroed b (n + 1)
 unfolding zeroed

@@ -1,23 +1,26 @@
 -- Laws of the definitions of specs/Questions.antt that the code's proofs cite.
 -- Assumes nothing.
-use Prim.Native.Nat.{ℕ, _+_, _<_, _≤_}
+use Prim.Native.Nat.{ℕ, _+_, _*_, _/_, _%_, _<_, _≤_}
 use native.Mathlib.Omega.{arith}
 use native.Mathlib.Numerals.{add-one}
-use mathlib.Core.Path.{_≡_, refl}
+use mathlib.Core.Path.{_≡_, refl, ap, _∙_}
 use mathlib.Core.Bool.{Bool, true, false, cond}
 use mathlib.Core.List.{List}
 use lib.Dec.{eqb, ltb}
 use lib.ListN.{length, getD, set}
-use borrow.Author.Tests.{lt-ltb, le-ltb}
+use borrow.Author.Tests.{eq-eqb, ne-eqb, lt-ltb, le-ltb, lt-leb, le-leb}
 use Rattle.laws.specs.Refusals.{typeNotKnown, tooShort}
 use Rattle.frame.specs.Rows.{vmb8ir, vmb1bl}
+use Rattle.picture.specs.declared.Outcome.{Outcome}
+use Rattle.picture.specs.declared.Outcome.the-variants as outcome
 use Rattle.picture.specs.declared.Answer.{Answer}
 use Rattle.picture.specs.declared.Answer.the-variants.{Refused}
 use Rattle.picture.specs.Limits.{room}
 use Rattle.picture.specs.Layout.{size}
 use Rattle.picture.specs.Places.{Asked, placeAsked, extent, extentOf, hasName}
+use Rattle.picture.specs.Result.{Result, refusing}
 use Rattle.picture.specs.Bytes.{kindIn}
-use Rattle.picture.specs.Questions.{slotAsked, heardAt, placeIn, numberIn, numberAnswer, filledTo, sumTo}
+use Rattle.picture.specs.Questions.{slotAsked, heardAt, placeIn, numberIn, numberAnswer, filledTo, filling, rowByte, sumTo}
 use Rattle.picture.proofs.CodePlaces.{within-high}
 
 -- a number's answer: the refusal of too few bytes, ...
@@ -83,3 +86,44 @@ module _ (f : ℕ → ℕ) where
   pub sum-more : (n : ℕ) {s v : ℕ} → s ≡ sumTo f n → v ≡ f n → s + v ≡ sumTo f (n + 1)
   unfolding sumTo
   sum-more n p e = rw (add-one, ← p, ← e)
+
+-- ---- the memory row
+-- both bytes of one number more
+module _ (f : ℕ → ℕ) (i : ℕ) where
+  row-low : f i % 256 ≡ rowByte f (2 * i)
+  row-low = let q : 2 * i / 2 ≡ i = omega arith in rw (eq-eqb (2 * i % 2) 0 (omega arith), q)
+
+  row-high : f i / 256 ≡ rowByte f (2 * i + 1)
+  row-high = let q : (2 * i + 1) / 2 ≡ i = omega arith in rw (ne-eqb ((2 * i + 1) % 2) 0 (λ e. omega arith), q)
+
+  pub row-more : (out : List ℕ) {x : List ℕ} {v : ℕ} → x ≡ filledTo (rowByte f) out (2 * i) → v ≡ f i
+      → set (set x (2 * i) (v % 256)) (2 * i + 1) (v / 256) ≡ filledTo (rowByte f) out (2 * (i + 1))
+  row-more out {x} {v} p e =
+      let low : set x (2 * i) (v % 256) ≡ filledTo (rowByte f) out (2 * i + 1) = filled-more (rowByte f) out (2 * i) p (rw e row-low) refl in
+      let next : 2 * i + 1 + 1 ≡ 2 * (i + 1) = omega arith in
+      filled-more (rowByte f) out (2 * i + 1) low (rw e row-high) refl ∙ ap (filledTo (rowByte f) out) next
+
+-- the answer and the buffer of a result
+abbrev Leaves : Outcome → List ℕ → Result → Type 0
+Leaves o out r = (o ≡ r .outcome) × (out ≡ r .buffer)
+
+-- a row of n that f gives of the module in a slot: 5, 13, or filled
+module _ (f : ℕ → ℕ) (s n : ℕ) (out : List ℕ) where
+  abbrev Row : Result
+  Row = cond (ltb s room) (filling f n out) (refusing typeNotKnown out)
+
+  pub row-unlisted : room ≤ s → Leaves (outcome.Refused typeNotKnown) out Row
+  row-unlisted h = let none = le-ltb s room h in (rw none, rw none)
+
+  module _ {m : ℕ} (e : m ≡ n) (listed : s < room) where
+    pub row-short : length out < m → Leaves (outcome.Refused tooShort) out Row
+    unfolding filling
+    row-short l = let there = lt-ltb s room listed in
+        let small = rw e at (lt-leb m (length out) l) in
+        (rw (there, small), rw (there, small))
+
+    pub row-filled : m ≤ length out → {x : List ℕ} → x ≡ filledTo f out m → Leaves outcome.Done x Row
+    unfolding filling
+    row-filled l p = let there = lt-ltb s room listed in
+        let large = rw e at (le-leb m (length out) l) in
+        (rw (there, large), rw (there, large, ← e) p)

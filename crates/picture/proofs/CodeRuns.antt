@@ -1,31 +1,38 @@
 -- Laws of runs of places, copied into the log and written, that the code's proofs cite.
 -- Assumes nothing.
-use Prim.Native.Nat.{ℕ, zero, suc, _+_, _*_, _≤_, _<_}
+use Prim.Native.Nat.{ℕ, zero, suc, _+_, _-_, _*_, _≤_, _<_}
 use native.Mathlib.Omega.{arith}
 use mathlib.Core.Path.{_≡_, refl, _∙_}
+use mathlib.Core.Bool.{true}
+use mathlib.Core.Logic.{_≢_}
 use mathlib.Core.List.{List, [], _∷_}
+use lib.Dec.{ltb, leb}
 use lib.ListN.{getD, take, drop}
 use lib.Seq.{getD-set-other, getD-drop, take-nil}
+use borrow.Author.Tests.{ltb-true, leb-true}
+use Rattle.laws.proofs.Testing.{and-both}
 use Rattle.picture.specs.Layout.{placeAt, oldAt}
-use Rattle.picture.specs.Limits.{depth}
+use Rattle.picture.specs.Places.{places}
+use Rattle.picture.specs.Limits.{room, depth}
 use Rattle.picture.specs.Runs.{Run, Saying, sayings}
-use Rattle.picture.specs.Bytes.{nextOf, putAt, written, stored, copied, didWrite, opened, stepped, countOf, savedPlaces, saved, toldBytes}
+use Rattle.picture.specs.Bytes.{nextOf, putAt, written, stored, copied, didWrite, opened, stepped, countOf, savedPlaces, saved, toldBytes, fits}
 
 pub next-small : (b : List ℕ) → nextOf b < depth
 unfolding nextOf
 next-small b = omega arith
 
--- ---- bytes copied further on are a row that is loaded before one is stored
-stored-before : (b : List ℕ) (o : ℕ) (row : List ℕ) (n i : ℕ) → i < o → getD (stored b o row n) i 0 ≡ getD b i 0
+-- ---- bytes copied n or more away are a row that is loaded before one is stored
+stored-beside : (b : List ℕ) (o : ℕ) (row : List ℕ) (n i : ℕ) → ((j : ℕ) → j < n → i ≢ o + j) → getD (stored b o row n) i 0 ≡ getD b i 0
 unfolding stored
-stored-before b o row zero i h = refl
-stored-before b o row (suc n) i h = getD-set-other (stored b o row n) (o + n) i (getD row n 0) 0 (λ e. omega arith) ∙ stored-before b o row n i h
+stored-beside b o row zero i h = refl
+stored-beside b o row (suc n) i h =
+    getD-set-other (stored b o row n) (o + n) i (getD row n 0) 0 (h n (omega arith)) ∙ stored-beside b o row n i (λ j l. h j (omega arith))
 
-pub loaded-copied : (b : List ℕ) (to from n : ℕ) → from + n ≤ to → stored b to (drop from b) n ≡ copied b to from n
+pub loaded-copied : (b : List ℕ) (to from n : ℕ) → n ≤ (to - from) + (from - to) → stored b to (drop from b) n ≡ copied b to from n
 unfolding stored copied
 loaded-copied b to from zero h = refl
 loaded-copied b to from (suc n) h =
-    rw (← loaded-copied b to from n (omega arith), stored-before b to (drop from b) n (from + n) (omega arith), getD-drop from b n 0)
+    rw (← loaded-copied b to from n (omega arith), stored-beside b to (drop from b) n (from + n) (λ j l e. omega arith), getD-drop from b n 0)
 
 -- ---- bytes copied in two goes: m of them, and then n more
 copied-on : (b : List ℕ) (to from m n : ℕ) → copied (copied b to from m) (to + m) (from + m) n ≡ copied b to from (m + n)
@@ -43,6 +50,12 @@ pub copied-also :
     y ≡ copied x (to + m) (from + m) n →
     y ≡ copied b to from (m + n)
 copied-also b to from m n p q = q ∙ rw p (copied-on b to from m n)
+
+-- ---- a run that lies in a record
+pub fits-run : (s start count : ℕ) → fits s start count ≡ true → (s < room) × (start + count ≤ places)
+unfolding fits
+fits-run s start count e = let both = and-both (ltb s room) (leb (start + count) places) e in
+    (ltb-true s room (both .0), leb-true (start + count) places (both .1))
 
 -- ---- places saved, from what the calls found and did
 pub saved-by :

@@ -1,6 +1,6 @@
 -- The questions on the picture's bytes, for every list of bytes. Refusals in order: 13 for the picture, 5, 12, 13 for the buffer to fill, 14.
 -- Assumes nothing.
-use Prim.Native.Nat.{ℕ, zero, suc, _+_}
+use Prim.Native.Nat.{ℕ, zero, suc, _+_, _*_, _/_, _%_}
 use mathlib.Core.Bool.{cond}
 use mathlib.Core.List.{List}
 use lib.Dec.{eqb, ltb, leb}
@@ -110,3 +110,13 @@ memoryIn b s out = cond (ltb s room) (filling (cellValue b s) (extentOf (kindIn 
 
 unfoldable pub memoryRow : List ℕ → ℕ → List ℕ → Result
 memoryRow b a out = cond (short b) (refusing tooShort out) (memoryIn b (slotAsked b a) out)
+
+-- the same row as bytes: two for each number that f gives, low byte first
+abbrev pub rowByte : (ℕ → ℕ) → ℕ → ℕ
+rowByte f j = cond (eqb (j % 2) 0) (f (j / 2) % 256) (f (j / 2) / 256)
+
+unfoldable pub memoryBytesIn : List ℕ → ℕ → List ℕ → Result
+memoryBytesIn b s out = cond (ltb s room) (filling (rowByte (cellValue b s)) (2 * extentOf (kindIn b s) .cells) out) (refusing typeNotKnown out)
+
+unfoldable pub memoryBytes : List ℕ → ℕ → List ℕ → Result
+memoryBytes b a out = cond (short b) (refusing tooShort out) (memoryBytesIn b (slotAsked b a) out)

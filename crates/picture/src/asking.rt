@@ -30,13 +30,13 @@ pub fn slot_asked(picture: &[u8], address: u32) -> u8
 }
 
 // A value that is told, or unknown.
-fn known(value: u8, told: u8) -> u16
+pub fn known(value: u8, told: u8) -> u16
     ensures { λ r. ⌜ r ≡ cond (eqb told 0) 256 value ⌝ }
 {
     if told == 0 { UNKNOWN } else { wide16(value) }
 }
 
-// The value of a place. Both bytes are read, so that a row is filled without a branch for each cell.
+// The value of a place. Both bytes are read, so that there is no branch.
 pub(crate) fn value_of(picture: &[u8], slot: u8, place: u32) -> u16
     requires { ⌜ placeAt slot place + 2 ≤ length (now picture) ⌝ }
     ensures { λ r. ⌜ r ≡ valueAt (now (picture .entry)) (placeAt slot place) ⌝ }

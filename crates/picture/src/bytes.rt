@@ -1,6 +1,7 @@
 // Bytes of a buffer, read and stored. Past its end stands 0, and nothing is stored.
+use laws::wide16;
 ghost use mathlib.Core.Path.{_≡_};
-ghost use Prim.Native.Nat.{_+_, _≤_, min};
+ghost use Prim.Native.Nat.{_+_, _/_, _%_, _≤_, min};
 ghost use lib.ListN.{length, getD, set};
 ghost use Rattle.picture.specs.Bytes.{pair};
 
@@ -16,6 +17,14 @@ pub fn put_at(s: &mut [u8], i: usize, v: u8)
     if i < s.len() {
         s[i] = v;
     }
+}
+
+// The two bytes of a place as one number, the value low. The function does nothing else with them, so that it is one load.
+pub(crate) fn pair_at(s: &[u8], at: usize) -> u16
+    requires { ⌜ at + 2 ≤ length (now s) ⌝ }
+    ensures { λ r. ⌜ (r % 256 ≡ getD (now (s .entry)) at 0) × (r / 256 ≡ getD (now (s .entry)) (at + 1) 0) ⌝ }
+{
+    wide16(s[at]) + 256 * wide16(s[at + 1])
 }
 
 // The two bytes of a place: its value, and whether it is told.

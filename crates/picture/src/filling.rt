@@ -1,13 +1,15 @@
 // Questions that fill a row: which addresses are listed, and the memory of a module.
 use crate::Outcome;
 use crate::asking::ADDRESSES;
+use crate::asking::known;
 use crate::asking::slot_asked;
-use crate::asking::value_of;
+use crate::bytes::pair_at;
 use crate::bytes::put_at;
 use crate::head::kind_in;
 use crate::head::slot_of;
 use crate::layout::ROOM;
 use crate::layout::SIZE;
+use crate::layout::place_at;
 use crate::places::cell_place;
 use crate::places::extent_of;
 use frame::Address;
@@ -15,13 +17,13 @@ use frame::Location;
 use laws::TOO_SHORT;
 use laws::TYPE_NOT_KNOWN;
 ghost use mathlib.Core.Path.{_≡_};
-ghost use Prim.Native.Nat.{_+_, _≤_};
+ghost use Prim.Native.Nat.{_+_, _*_, _≤_};
 ghost use lib.ListN.{length};
 ghost use Rattle.picture.specs.Limits.{addresses};
 ghost use Rattle.picture.specs.Layout.{size, placeAt};
-ghost use Rattle.picture.specs.Places.{cellPlace};
+ghost use Rattle.picture.specs.Places.{cellPlace, extentOf};
 ghost use Rattle.picture.specs.Bytes.{kindIn};
-ghost use Rattle.picture.specs.Questions.{filledTo, listedIf, listing, cellValue, memoryIn, memoryRow};
+ghost use Rattle.picture.specs.Questions.{filledTo, listedIf, listing, cellValue, rowByte, memoryIn, memoryRow, memoryBytesIn, memoryBytes};
 
 fn listed_if(picture: &[u8], address: Address) -> u8
     ensures { λ r. ⌜ r ≡ listedIf (now (picture .entry)) (address .0) ⌝ }
@@ -59,12 +61,14 @@ pub fn listed(picture: &[u8], out: &mut [u8]) -> Outcome
     Outcome::Done
 }
 
+// A cell's two bytes are loaded as one number, so that many cells of a row are loaded at once.
 fn cell_value(picture: &[u8], slot: u8, location: Location) -> u16
     requires { ⌜ placeAt slot (cellPlace (kindIn (now picture) slot) (location .0)) + 2 ≤ length (now picture) ⌝ }
     ensures { λ r. ⌜ r ≡ cellValue (now (picture .entry)) slot (location .0) ⌝ }
 {
     let kind = kind_in(picture, slot);
-    value_of(picture, slot, cell_place(kind, location))
+    let pair = pair_at(picture, place_at(slot, cell_place(kind, location)));
+    known((pair % 256) as u8, (pair / 256) as u8)
 }
 
 // The first n cells of a module.
@@ -81,6 +85,14 @@ fn fill_cells(picture: &[u8], slot: u8, n: u16, out: &mut [u16])
     }
 }
 
+// How many cells the module in a slot has.
+fn cells_in(picture: &[u8], slot: u8) -> u16
+    ensures { λ r. ⌜ (r ≡ extentOf (kindIn (now (picture .entry)) slot) .cells) × (r ≤ 256) ⌝ }
+{
+    let e = extent_of(kind_in(picture, slot));
+    e.cells as u16
+}
+
 fn memory_in(picture: &[u8], slot: u8, out: &mut [u16]) -> Outcome
     requires { ⌜ size ≤ length (now picture) ⌝ }
     ensures { λ r. ⌜ r ≡ memoryIn (now (picture .entry)) slot (now (out .entry)) .outcome ⌝ }
@@ -89,12 +101,11 @@ fn memory_in(picture: &[u8], slot: u8, out: &mut [u16]) -> Outcome
     if ROOM <= slot {
         return Outcome::Refused(TYPE_NOT_KNOWN);
     }
-    let e = extent_of(kind_in(picture, slot));
-    let n = e.cells;
+    let n = cells_in(picture, slot);
     if out.len() < n as usize {
         return Outcome::Refused(TOO_SHORT);
     }
-    fill_cells(picture, slot, n as u16, out);
+    fill_cells(picture, slot, n, out);
     Outcome::Done
 }
 
@@ -107,4 +118,47 @@ pub fn memory_row(picture: &[u8], address: u32, out: &mut [u16]) -> Outcome
         return Outcome::Refused(TOO_SHORT);
     }
     memory_in(picture, slot_asked(picture, address), out)
+}
+
+// The first n cells of a module, two bytes each.
+fn fill_bytes(picture: &[u8], slot: u8, n: u16, out: &mut [u8])
+    requires { ⌜ placeAt slot (cellPlace (kindIn (now picture) slot) n) ≤ length (now picture) ⌝ }
+    requires { ⌜ 2 * n ≤ length (now out) ⌝ }
+    ensures { λ _. ⌜ now (out .exit) ≡ filledTo (rowByte (cellValue (now (picture .entry)) slot)) (now (out .entry)) (2 * n) ⌝ }
+{
+    let mut i: u16 = 0;
+    while i < n {
+        let value = cell_value(picture, slot, Location(i));
+        let at = 2 * (i as usize);
+        out[at] = (value % 256) as u8;
+        out[at + 1] = (value / 256) as u8;
+        i += 1;
+    }
+}
+
+fn memory_bytes_in(picture: &[u8], slot: u8, out: &mut [u8]) -> Outcome
+    requires { ⌜ size ≤ length (now picture) ⌝ }
+    ensures { λ r. ⌜ r ≡ memoryBytesIn (now (picture .entry)) slot (now (out .entry)) .outcome ⌝ }
+    ensures { λ _. ⌜ now (out .exit) ≡ memoryBytesIn (now (picture .entry)) slot (now (out .entry)) .buffer ⌝ }
+{
+    if ROOM <= slot {
+        return Outcome::Refused(TYPE_NOT_KNOWN);
+    }
+    let n = cells_in(picture, slot);
+    if out.len() < 2 * (n as usize) {
+        return Outcome::Refused(TOO_SHORT);
+    }
+    fill_bytes(picture, slot, n, out);
+    Outcome::Done
+}
+
+// The same row as bytes, two for each number, low byte first.
+pub fn memory_bytes(picture: &[u8], address: u32, out: &mut [u8]) -> Outcome
+    ensures { λ r. ⌜ r ≡ memoryBytes (now (picture .entry)) address (now (out .entry)) .outcome ⌝ }
+    ensures { λ _. ⌜ now (out .exit) ≡ memoryBytes (now (picture .entry)) address (now (out .entry)) .buffer ⌝ }
+{
+    if picture.len() < SIZE {
+        return Outcome::Refused(TOO_SHORT);
+    }
+    memory_bytes_in(picture, slot_asked(picture, address), out)
 }

@@ -17,13 +17,14 @@ mod stepping;
 mod telling;
 
 pub use filling::listed;
+pub use filling::memory_bytes;
 pub use filling::memory_row;
 pub use hearing::hear;
 use layout::SIZE;
 pub use leds::glow_number;
 pub use names::name;
 pub use names::name_heard;
-pub use places::extent_for;
+pub use places::extent_of;
 pub use questions::blind;
 pub use questions::build_week;
 pub use questions::build_year;

@@ -14,7 +14,7 @@ use crate::layout::place_at;
 use crate::places::PLACES;
 use laws::both;
 ghost use mathlib.Core.Path.{_≡_};
-ghost use Prim.Native.Nat.{suc, min, _+_, _*_, _^_, _<_, _≤_};
+ghost use Prim.Native.Nat.{suc, min, _+_, _-_, _*_, _<_, _≤_};
 ghost use lib.ListN.{length};
 ghost use Rattle.picture.specs.Layout.{oldAt, placeAt, size};
 ghost use Rattle.picture.specs.Places.{places};
@@ -92,23 +92,10 @@ pub fn step_on(picture: &mut [u8])
     put_at(picture, NEXT_AT, next);
 }
 
-// Bytes copied, one after the other.
-fn copy(picture: &mut [u8], to: usize, from: usize, n: usize)
-    requires { ⌜ (to < 2 ^ 40) × (from < 2 ^ 40) × (n < 2 ^ 40) ⌝ }
-    ensures { λ _. ⌜ now (picture .exit) ≡ copied (now (picture .entry)) to from n ⌝ }
-{
-    let mut i: usize = 0;
-    while i < n {
-        let b = byte_at(picture, from + i);
-        put_at(picture, to + i, b);
-        i += 1;
-    }
-}
-
-// The two bytes of a place, and the eight of four places, copied further on. All are loaded before one is stored, so that it is one load
-// and one store.
+// The two bytes of a place, and the eight of four places, copied at least so far on or back. All are loaded before one is stored, so that it
+// is one load and one store.
 fn copy_two(picture: &mut [u8], to: usize, from: usize)
-    requires { ⌜ (from + 2 ≤ to) × (to + 2 ≤ length (now picture)) ⌝ }
+    requires { ⌜ (2 ≤ (to - from) + (from - to)) × (from + 2 ≤ length (now picture)) × (to + 2 ≤ length (now picture)) ⌝ }
     ensures { λ _. ⌜ now (picture .exit) ≡ copied (now (picture .entry)) to from 2 ⌝ }
 {
     let a = picture[from];
@@ -118,7 +105,7 @@ fn copy_two(picture: &mut [u8], to: usize, from: usize)
 }
 
 fn copy_eight(picture: &mut [u8], to: usize, from: usize)
-    requires { ⌜ (from + 8 ≤ to) × (to + 8 ≤ length (now picture)) ⌝ }
+    requires { ⌜ (8 ≤ (to - from) + (from - to)) × (from + 8 ≤ length (now picture)) × (to + 8 ≤ length (now picture)) ⌝ }
     ensures { λ _. ⌜ now (picture .exit) ≡ copied (now (picture .entry)) to from 8 ⌝ }
 {
     let a = picture[from];
@@ -137,6 +124,19 @@ fn copy_eight(picture: &mut [u8], to: usize, from: usize)
     picture[to + 5] = f;
     picture[to + 6] = g;
     picture[to + 7] = h;
+}
+
+// The two bytes of each of n places, one place after the other.
+fn copy_places(picture: &mut [u8], to: usize, from: usize, n: u8)
+    requires { ⌜ (2 ≤ (to - from) + (from - to)) × (from + 2 * n ≤ length (now picture)) × (to + 2 * n ≤ length (now picture)) ⌝ }
+    ensures { λ _. ⌜ now (picture .exit) ≡ copied (now (picture .entry)) to from (2 * n) ⌝ }
+{
+    let mut i: u8 = 0;
+    while i < n {
+        let at = 2 * (i as usize);
+        copy_two(picture, to + at, from + at);
+        i += 1;
+    }
 }
 
 // One of a module's places as they are, into the log.
@@ -227,16 +227,24 @@ fn run_fits(slot: u8, start: u32, count: u8) -> bool
     both(slot < ROOM, start as usize + count as usize <= PLACES)
 }
 
+// The places of a run: four at once, since most runs have four, and the others after them.
 fn return_places(picture: &mut [u8], entry: u8, slot: u8, start: u32, count: u8)
+    requires { ⌜ (size ≤ length (now picture)) × (entry < depth) × (slot < room) × (start + count ≤ places) × (count ≤ 8) ⌝ }
     ensures { λ _. ⌜ now (picture .exit) ≡ copied (now (picture .entry)) (placeAt slot start) (oldAt entry) (2 * count) ⌝ }
 {
     let to = place_at(slot, start);
     let from = old_at(entry);
-    copy(picture, to, from, 2 * (count as usize));
+    if count < 4 {
+        copy_places(picture, to, from, count);
+    } else {
+        copy_eight(picture, to, from);
+        copy_places(picture, to + 8, from + 8, count - 4);
+    }
 }
 
 // What an entry keeps, back into its record; nothing, where that is no run of a record.
-pub fn put_back(picture: &mut [u8], entry: u8)
+pub(crate) fn put_back(picture: &mut [u8], entry: u8)
+    requires { ⌜ (size ≤ length (now picture)) × (entry < depth) ⌝ }
     ensures { λ _. ⌜ now (picture .exit) ≡ putBack (now (picture .entry)) entry ⌝ }
 {
     let kept = kept_in(picture, entry);

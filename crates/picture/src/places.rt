@@ -42,10 +42,11 @@ const CELLS: u32 = 256;
 const NAME_LENGTH: u32 = 16;
 
 // How much each type has.
-pub fn extent_for(kind: u32) -> Extent
+pub fn extent_of(kind: u8) -> Extent
     ensures { λ r. ⌜ r ≡ extentOf kind ⌝ }
 {
-    if kind == VMB8IR {
+    let number = wide32(kind);
+    if number == VMB8IR {
         return Extent {
             cells: 256,
             names: 8,
@@ -53,7 +54,7 @@ pub fn extent_for(kind: u32) -> Extent
             blinds: 0,
         };
     }
-    if kind == VMB1BL {
+    if number == VMB1BL {
         return Extent {
             cells: 128,
             names: 3,
@@ -67,13 +68,6 @@ pub fn extent_for(kind: u32) -> Extent
         leds: 0,
         blinds: 0,
     }
-}
-
-// The same, for the type byte of a record.
-pub fn extent_of(kind: u8) -> Extent
-    ensures { λ r. ⌜ r ≡ extentOf kind ⌝ }
-{
-    extent_for(wide32(kind))
 }
 
 // Whether n counts from 1 to most.

@@ -18,9 +18,10 @@ use crate::log::put_back;
 use laws::NOTHING_KEPT;
 use laws::TOO_SHORT;
 ghost use mathlib.Core.Path.{_≡_};
-ghost use Prim.Native.Nat.{pred};
-ghost use lib.ListN.{set};
-ghost use Rattle.picture.specs.Layout.{countAt, headSize};
+ghost use Prim.Native.Nat.{pred, _≤_, _<_};
+ghost use lib.ListN.{length, set};
+ghost use Rattle.picture.specs.Limits.{depth};
+ghost use Rattle.picture.specs.Layout.{countAt, headSize, size};
 ghost use Rattle.picture.specs.Bytes.{before, modulesOf, zeroed, undone, backOver, steppingBack, freshening};
 
 // One fewer, and 0 of 0.
@@ -40,6 +41,7 @@ fn leave(picture: &mut [u8])
 
 // What the entry says was done, undone.
 fn undo(picture: &mut [u8], entry: u8)
+    requires { ⌜ (size ≤ length (now picture)) × (entry < depth) ⌝ }
     ensures { λ _. ⌜ now (picture .exit) ≡ undone (now (picture .entry)) entry ⌝ }
 {
     let what = byte_at(picture, entry_at(entry));
@@ -55,6 +57,7 @@ fn undo(picture: &mut [u8], entry: u8)
 
 // The entry undone, one step fewer kept, and the ring back at the entry.
 fn back_over(picture: &mut [u8], entry: u8)
+    requires { ⌜ (size ≤ length (now picture)) × (entry < depth) ⌝ }
     ensures { λ _. ⌜ now (picture .exit) ≡ backOver (now (picture .entry)) entry ⌝ }
 {
     let fewer = one_fewer(kept_of(picture));

@@ -60,7 +60,7 @@ unfolding moduleText sheetText
 module-short b address = go (typeAnswer b address)
   where
     go : (r : Answer) → length (typedText b address r) ≤ lineRoom
-    go (Value kind) = lines-are-short .1 (address % 256) (kind % 256) (wholeNames b address (extentOf kind .names)) (toldCells b address (extentOf kind .cells))
+    go (Value kind) = lines-are-short .1 (address % 256) (kind % 256) (wholeNames b address (extentOf (kind % 256) .names)) (toldCells b address (extentOf (kind % 256) .cells))
     go (Refused n) = omega arith
 
 modules-short : (b : List ℕ) (n : ℕ) → length (modulesText b n) ≤ lineRoom * n

@@ -15,11 +15,11 @@ use Rattle.replay.specs.Sheets.{wholeNames, toldCells}
 -- the line of a listed module of a type
 unfoldable pub sheetText : List ℕ → ℕ → ℕ → List ℕ
 sheetText b address kind =
-    moduleLine (address % 256) (kind % 256) (wholeNames b address (extentOf kind .names)) (toldCells b address (extentOf kind .cells))
+    moduleLine (address % 256) kind (wholeNames b address (extentOf kind .names)) (toldCells b address (extentOf kind .cells))
 
 -- by the answer to the question on its type: the module's line, or nothing where none is listed
 abbrev pub typedText : List ℕ → ℕ → Answer → List ℕ
-typedText b address (Value kind) = sheetText b address kind
+typedText b address (Value kind) = sheetText b address (kind % 256)
 typedText b address (Refused n) = []
 
 -- the line of the module at an address

@@ -16,20 +16,13 @@ ghost use Rattle.replay.specs.Listing.{sheetText, moduleText, modulesTex
 const ADDRESSES: u32 = 256;
 
 // The line of a listed module.
-fn put_sheet(picture: &[u8], out: &mut [u8], at: usize, address: u32, kind: u16) -> usize
+fn put_sheet(picture: &[u8], out: &mut [u8], at: usize, address: u32, kind: u8) -> usize
     ensures { λ r. ⌜ Written (now (out .entry)) at (sheetText (now (picture .entry)) address kind) (now (out .exit)) r ⌝ }
 {
-    let extent = picture::extent_for(kind as u32);
+    let extent = picture::extent_of(kind);
     let names = whole_names(picture, address, extent.names);
     let cells = told_cells(picture, address, extent.cells);
-    put_module_line(
-        out,
-        at,
-        (address % 256) as u8,
-        (kind % 256) as u8,
-        names,
-        cells,
-    )
+    put_module_line(out, at, (address % 256) as u8, kind, names, cells)
 }
 
 // The line of the module at an address, nothing where none is listed.
@@ -37,7 +30,7 @@ fn put_module(picture: &[u8], out: &mut [u8], at: usize, address: u32) -> usize
     ensures { λ r. ⌜ Written (now (out .entry)) at (moduleText (now (picture .entry)) address) (now (out .exit)) r ⌝ }
 {
     match picture::type_of(picture, address) {
-        Answer::Value(kind) => put_sheet(picture, out, at, address, kind),
+        Answer::Value(kind) => put_sheet(picture, out, at, address, (kind % 256) as u8),
         Answer::Refused(_) => clip(at, out.len()),
     }
 }

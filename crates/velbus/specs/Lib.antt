@@ -2,6 +2,5 @@ pub mod Parts
 pub mod Layout
 pub mod Words
 pub mod Frames
-pub mod Rows
 pub mod Recordings
 pub mod Statements

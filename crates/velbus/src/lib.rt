@@ -4,5 +4,4 @@ mod layout;
 mod parts;
 mod pictures;
 mod recordings;
-mod rows;
 mod words;

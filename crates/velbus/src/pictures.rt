@@ -5,7 +5,7 @@ ghost use mathlib.Core.Path.{_≡_};
 ghost use Rattle.picture.specs.Layout.{size};
 ghost use Rattle.picture.specs.Places.{year, week, cell, led, blind};
 ghost use Rattle.picture.specs.Bytes.{hearing, steppingBack, freshening};
-ghost use Rattle.picture.specs.Questions.{keptAnswer, typeAnswer, numberAnswer, listing, nameHeard, nameWhole};
+ghost use Rattle.picture.specs.Questions.{keptAnswer, typeAnswer, numberAnswer, listing, nameHeard, nameWhole, memoryBytes};
 ghost use Rattle.velbus.specs.Words.{outcomeWord, answerWord};
 
 #[no_mangle]
@@ -110,4 +110,12 @@ pub extern "C" fn velbus_name(picture: &[u8], address: u32, name: u32, out: &mut
     ensures { λ _. ⌜ now (out .exit) ≡ nameWhole (now (picture .entry)) address name (now (out .entry)) .buffer ⌝ }
 {
     outcome_word(picture::name(picture, address, name, out))
+}
+
+#[no_mangle]
+pub extern "C" fn velbus_memory_row(picture: &[u8], address: u32, out: &mut [u8]) -> u32
+    ensures { λ r. ⌜ r ≡ outcomeWord (memoryBytes (now (picture .entry)) address (now (out .entry)) .outcome) ⌝ }
+    ensures { λ _. ⌜ now (out .exit) ≡ memoryBytes (now (picture .entry)) address (now (out .entry)) .buffer ⌝ }
+{
+    outcome_word(picture::memory_bytes(picture, address, out))
 }

@@ -1,9 +1,16 @@
 -- `picture::log::put_back` meets its contract. Assumes nothing.
+use native.Mathlib.Omega.{arith}
 use mathlib.Core.Path.{sym, _∙_}
 use borrow.Author.Needs.{needs}
 use Rattle.picture.specs.Bytes.{putBack}
+use Rattle.picture.proofs.CodeRuns.{fits-run}
 use Rattle.picture.proofs.log.put_back.Statement.{statement}
 use Rattle.picture.proofs.log.put_back.Tie as tie
+
+return-places-requires : tie.Need-return-places-requires
+return-places-requires c κs = let kept = c .before .before .before .kept-in in
+    let run = fits-run _ _ _ (sym (c .before .before .run-fits .ensures) ∙ c .before .if1 .taken) in
+    omega (arith, run .0, run .1, kept .ensures .2)
 
 returns : tie.Need-returns
 unfolding putBack
@@ -21,7 +28,7 @@ put-back-spec =
     (tie.spec
     (λ c κs. search needs)
     (λ c κs. search needs)
-    (λ c κs. search needs)
+    return-places-requires
     (λ c. search needs)
     returns
     (λ c. search needs)

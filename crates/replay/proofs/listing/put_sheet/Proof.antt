@@ -18,10 +18,10 @@ returns c =
     let told = c .before .before .before .before in
     let a = told .before .before .before .before .before .args in
     let p = c .before .before .put-module-line in
-    let e = told .before .before .extent-for .ensures in
+    let e = told .before .before .extent-of .ensures in
     let names = told .before .whole-names .ensures ∙ ap (λ (x : Extent). wholeNames (a .picture .now) (a .address) (x .names)) e in
     let cells = told .told-cells .ensures ∙ ap (λ (x : Extent). toldCells (a .picture .now) (a .address) (x .cells)) e in
-    subst (λ (text : List ℕ). Written (a .out .now) (a .at) text (p .last .0) (p .result)) (λ i. moduleLine (a .address % 256) (a .kind % 256) (names i) (cells i))
+    subst (λ (text : List ℕ). Written (a .out .now) (a .at) text (p .last .0) (p .result)) (λ i. moduleLine (a .address % 256) (a .kind) (names i) (cells i))
     (p .ensures)
 
 pub put-sheet-spec : {M : Type 1} → statement M
@@ -31,7 +31,6 @@ put-sheet-spec =
     (λ c κs. search needs)
     (λ c κs. search needs)
     (λ c κs. search needs)
-    (λ c. search needs)
     (λ c. search needs)
     (λ c κs. search needs)
     (λ c. search needs)
