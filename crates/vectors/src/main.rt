@@ -1,52 +1,34 @@
-// Runs vectors of the documents through the library, and compares what comes out with what the documents say.
-mod blinds;
-mod cells;
-mod edges;
+// Runs vectors of the documents, lines of standard input, through the library, and compares what comes out with what they say.
+mod fills;
 mod frames;
-mod leds;
 mod messages;
-mod modules;
-mod names;
 mod pictures;
 mod recordings;
+mod statements;
 mod tally;
-mod vmb1bl_asked;
-mod vmb1bl_told;
-mod vmb8ir_asked;
-mod vmb8ir_told;
+mod text;
+mod words;
 
-use libc::STDOUT_FILENO;
+use libc::STDIN_FILENO;
 use tally::Tally;
 
-// Source documents 001 and 003: every frame that they lay out.
-fn run_frames(t: Tally) -> Tally {
-    let t = vmb8ir_told::run(t);
-    let t = vmb8ir_asked::run(t);
-    let t = vmb1bl_told::run(t);
-    vmb1bl_asked::run(t)
-}
+// The bytes of a picture, and those that the text has room in.
+const PICTURE_SIZE: usize = 17200;
 
-// 01: edges of frames and messages; the picture, steps back and questions; recordings.
-fn run_rules(t: Tally) -> Tally {
-    let mut picture = [0u8; 17200];
-    let t = edges::run(t);
-    let t = messages::run(t);
-    let t = leds::run(t, &mut picture);
-    let t = cells::run(t, &mut picture);
-    let t = blinds::run(t, &mut picture);
-    let t = names::run(t, &mut picture);
-    let t = modules::run(t, &mut picture);
-    recordings::run(t, &mut picture)
+const TEXT_ROOM: usize = 65536;
+
+// A text that fills its room may be longer than that, and what is beyond is not read: that is told.
+fn told_whole(t: Tally, n: usize) -> Tally {
+    if n < TEXT_ROOM {
+        return t;
+    }
+    t.unread(b"the text", b"it is too long")
 }
 
 fn main() {
-    let t = Tally::new();
-    let t = run_frames(t);
-    let t = run_rules(t);
-    if t.differed != 0 {
-        io::print_decimal(STDOUT_FILENO, t.differed);
-        io::write_all(STDOUT_FILENO, b" vectors differ, ");
-    }
-    io::print_decimal(STDOUT_FILENO, t.agreed);
-    io::write_all(STDOUT_FILENO, b" vectors agree\n");
+    let mut text = [0u8; TEXT_ROOM];
+    let mut picture = [0u8; PICTURE_SIZE];
+    let n = io::read_full(STDIN_FILENO, &mut text);
+    let t = statements::run(&text[..n], &mut picture);
+    told_whole(t, n).tell();
 }

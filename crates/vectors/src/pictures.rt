@@ -1,117 +1,95 @@
-// Runs frames and questions through a picture. Each vector names what 01 says of it.
+// Runs frames, steps back and questions through a picture.
 use crate::tally::Tally;
-use crate::tally::wide;
+use crate::words::REFUSED;
+use laws::wide32;
 use picture::Answer;
 use picture::Outcome;
 
-// The bytes of a picture.
-pub type Picture = [u8; 17200];
+// A VMB8IR stands at H'2A', a VMB1BL at H'31': 512 × priority + 2 × address, of low priority.
+const IR_LOW: u32 = 1620;
 
-// A VMB8IR stands at H'2A', a VMB1BL at H'31': their addresses, and 512 × priority + 2 × address.
-pub const IR: u32 = 0x2A;
+const BL_LOW: u32 = 1634;
 
-pub const IR_LOW: u32 = 1620;
-
-pub const IR_HIGH: u32 = 84;
-
-pub const BL: u32 = 0x31;
-
-pub const BL_LOW: u32 = 1634;
-
-pub const BL_HIGH: u32 = 98;
-
-pub const UNKNOWN: u64 = 256;
-
-// A question's refusal n is compared as REFUSED + n, apart from every value.
-pub const REFUSED: u64 = 1000;
-
-pub(crate) fn outcome_number(o: Outcome) -> u64 {
+pub(crate) fn outcome_number(o: Outcome) -> u32 {
     match o {
         Outcome::Done => 0,
-        Outcome::Refused(n) => wide(n),
+        Outcome::Refused(n) => wide32(n),
     }
 }
 
-pub(crate) fn wide_value(v: u16) -> u64 {
-    v as u64
+pub(crate) fn wide_value(v: u16) -> u32 {
+    v as u32
 }
 
-pub(crate) fn answer_number(a: Answer) -> u64 {
+fn answer_number(a: Answer) -> u32 {
     match a {
         Answer::Value(v) => wide_value(v),
-        Answer::Refused(n) => std::num::wrapping_add_u64(REFUSED, wide(n)),
+        Answer::Refused(n) => REFUSED + wide32(n),
     }
+}
+
+pub(crate) fn fresh(t: Tally, of: &[u8], picture: &mut [u8], number: u32) -> Tally {
+    let got = outcome_number(picture::fresh(picture));
+    t.compare(of, b"", got, number)
+}
+
+// A frame: accepted where the number is 0.
+pub(crate) fn heard(
+    t: Tally,
+    of: &[u8],
+    picture: &mut [u8],
+    identifier: u32,
+    data: &[u8],
+    number: u32,
+) -> Tally {
+    let got = outcome_number(picture::hear(picture, identifier, 0, data));
+    t.compare(of, data, got, number)
 }
 
 // A fresh picture with the VMB8IR and the VMB1BL listed.
-pub(crate) fn two_modules(t: Tally, picture: &mut Picture) -> Tally {
+pub(crate) fn modules(t: Tally, picture: &mut [u8]) -> Tally {
+    let of = b"01 FF enters";
     picture::fresh(picture);
-    let t = heard(
-        t,
-        picture,
-        b"01 FF enters",
-        IR_LOW,
-        b"\xFF\x0A\x12\x34\x01\x0C\x05",
-    );
-    heard(t, picture, b"01 FF enters", BL_LOW, b"\xFF\x03\x02\x08\x0F")
+    let t = heard(t, of, picture, IR_LOW, b"\xFF\x0A\x12\x34\x01\x0C\x05", 0);
+    heard(t, of, picture, BL_LOW, b"\xFF\x03\x02\x08\x0F", 0)
 }
 
-// A frame that is accepted.
-pub(crate) fn heard(
-    t: Tally,
-    picture: &mut Picture,
-    label: &[u8],
-    identifier: u32,
-    data: &[u8],
-) -> Tally {
-    let got = outcome_number(picture::hear(picture, identifier, 0, data));
-    t.compare(label, data, got, 0)
-}
-
-pub(crate) fn not_heard(
-    t: Tally,
-    picture: &mut Picture,
-    label: &[u8],
-    identifier: u32,
-    data: &[u8],
-    number: u64,
-) -> Tally {
-    let got = outcome_number(picture::hear(picture, identifier, 0, data));
-    t.compare(label, data, got, number)
-}
-
-pub(crate) fn stepped_back(t: Tally, picture: &mut Picture, label: &[u8], number: u64) -> Tally {
+pub(crate) fn back(t: Tally, of: &[u8], picture: &mut [u8], number: u32) -> Tally {
     let got = outcome_number(picture::step_back(picture));
-    t.compare(label, b"", got, number)
+    t.compare(of, b"", got, number)
 }
 
-pub(crate) fn keeps(t: Tally, picture: &Picture, label: &[u8], count: u64) -> Tally {
-    t.compare(label, b"", answer_number(picture::kept(picture)), count)
+// The questions whose answer is a number, by their letters.
+fn answer(picture: &[u8], letter: u8, at: u32, number: u32) -> Answer {
+    match letter {
+        b'K' => picture::kept(picture),
+        b'T' => picture::type_of(picture, at),
+        b'Y' => picture::build_year(picture, at),
+        b'E' => picture::build_week(picture, at),
+        b'C' => picture::cell(picture, at, number),
+        b'L' => picture::led(picture, at, number),
+        b'I' => picture::blind(picture, at, number),
+        _ => Answer::Refused(0),
+    }
 }
 
-pub(crate) fn cell(
+pub(crate) fn asked(
     t: Tally,
-    picture: &Picture,
-    label: &[u8],
+    of: &[u8],
+    picture: &[u8],
+    letter: u8,
     at: u32,
-    location: u32,
-    is: u64,
+    number: u32,
+    is: u32,
 ) -> Tally {
-    let got = answer_number(picture::cell(picture, at, location));
-    t.compare(label, b"", got, is)
+    let got = answer_number(answer(picture, letter, at, number));
+    t.compare(of, b"", got, is)
 }
 
-pub(crate) fn led(t: Tally, picture: &Picture, label: &[u8], number: u32, is: u64) -> Tally {
-    let got = answer_number(picture::led(picture, IR, number));
-    t.compare(label, b"", got, is)
-}
-
-pub(crate) fn blind(t: Tally, picture: &Picture, label: &[u8], is: u64) -> Tally {
-    let got = answer_number(picture::blind(picture, BL, 1));
-    t.compare(label, b"", got, is)
-}
-
-pub(crate) fn type_is(t: Tally, picture: &Picture, label: &[u8], at: u32, is: u64) -> Tally {
-    let got = answer_number(picture::type_of(picture, at));
-    t.compare(label, b"", got, is)
+// A picture of too few bytes is 13, before anything else.
+pub(crate) fn short(t: Tally, of: &[u8], picture: &mut [u8]) -> Tally {
+    let t = fresh(t, of, picture, 13);
+    let t = heard(t, of, picture, 1621, b"", 13);
+    let t = back(t, of, picture, 13);
+    asked(t, of, picture, b'C', 256, 256, REFUSED + 13)
 }

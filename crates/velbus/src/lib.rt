@@ -5,3 +5,6 @@ mod parts;
 mod pictures;
 mod recordings;
 mod words;
+
+pub use frames::velbus_read;
+pub use frames::velbus_write;
