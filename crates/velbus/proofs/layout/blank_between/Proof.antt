@@ -1,3 +1,4 @@
+-- `velbus::layout::blank_between` meets its contract. Assumes nothing.
 use Rattle.velbus.specs.Layout.{blankBetween}
 use borrow.Author.Needs.{needs}
 use Rattle.velbus.proofs.layout.blank_between.Statement.{statement}

@@ -1,3 +1,4 @@
+-- `velbus::layout::laid` meets its contract. Assumes nothing.
 use mathlib.Core.Path.{refl}
 use Rattle.velbus.specs.Layout.{laidBytes}
 use borrow.Author.Needs.{needs}

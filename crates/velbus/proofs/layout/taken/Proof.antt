@@ -1,3 +1,4 @@
+-- `velbus::layout::taken` meets its contract. Assumes nothing.
 use Rattle.velbus.specs.Layout.{takenParts}
 use borrow.Author.Needs.{needs}
 use Rattle.velbus.proofs.layout.taken.Statement.{statement}

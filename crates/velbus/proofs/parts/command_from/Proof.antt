@@ -1,3 +1,4 @@
+-- `velbus::parts::command_from` meets its contract. Assumes nothing.
 use Rattle.velbus.specs.Parts.{Maker, makers, unnumbered, commandFrom}
 use Rattle.laws.proofs.Keys.{passed-over}
 use mathlib.Core.List.{[]}

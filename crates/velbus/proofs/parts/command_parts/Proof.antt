@@ -1,3 +1,4 @@
+-- `velbus::parts::command_parts` meets its contract. Assumes nothing.
 use Rattle.velbus.specs.Parts.{commandParts}
 use borrow.Author.Needs.{needs}
 use Rattle.velbus.proofs.parts.command_parts.Statement.{statement}

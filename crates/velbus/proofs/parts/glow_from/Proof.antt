@@ -1,3 +1,4 @@
+-- `velbus::parts::glow_from` meets its contract. Assumes nothing.
 use borrow.Author.Tests.{ne-eqb}
 use Rattle.velbus.proofs.parts.glow_from.Statement.{statement}
 use Rattle.velbus.proofs.parts.glow_from.Tie as tie

@@ -1,3 +1,4 @@
+-- `velbus::parts::glowing` meets its contract. Assumes nothing.
 use borrow.Author.Needs.{needs}
 use Rattle.velbus.proofs.parts.glowing.Statement.{statement}
 use Rattle.velbus.proofs.parts.glowing.Tie as tie

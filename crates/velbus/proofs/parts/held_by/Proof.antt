@@ -1,3 +1,4 @@
+-- `velbus::parts::held_by` meets its contract. Assumes nothing.
 use Rattle.velbus.specs.Parts.{heldBy}
 use borrow.Author.Needs.{needs}
 use Rattle.velbus.proofs.parts.held_by.Statement.{statement}

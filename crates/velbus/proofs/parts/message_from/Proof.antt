@@ -1,3 +1,4 @@
+-- `velbus::parts::message_from` meets its contract. Assumes nothing.
 use Rattle.velbus.specs.Parts.{messageFrom}
 use borrow.Author.Tests.{eq-eqb, ne-eqb}
 use borrow.Author.Needs.{needs}

@@ -1,3 +1,4 @@
+-- `velbus::parts::parts_of` meets its contract. Assumes nothing.
 use Rattle.velbus.specs.Parts.{partsOf}
 use borrow.Author.Needs.{needs}
 use Rattle.velbus.proofs.parts.parts_of.Statement.{statement}

@@ -1,3 +1,4 @@
+-- `velbus::parts::same_parts` meets its contract. Assumes nothing.
 use Rattle.velbus.specs.Parts.{sameParts}
 use borrow.Author.Needs.{needs}
 use Rattle.velbus.proofs.parts.same_parts.Statement.{statement}

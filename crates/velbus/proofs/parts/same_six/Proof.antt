@@ -1,3 +1,4 @@
+-- `velbus::parts::same_six` meets its contract. Assumes nothing.
 use Rattle.velbus.specs.Parts.{sameSix}
 use borrow.Author.Needs.{needs}
 use Rattle.velbus.proofs.parts.same_six.Statement.{statement}

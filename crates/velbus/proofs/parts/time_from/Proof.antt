@@ -1,3 +1,4 @@
+-- `velbus::parts::time_from` meets its contract. Assumes nothing.
 use borrow.Author.Tests.{ne-eqb}
 use Rattle.velbus.proofs.parts.time_from.Statement.{statement}
 use Rattle.velbus.proofs.parts.time_from.Tie as tie

@@ -1,3 +1,4 @@
+-- `velbus::parts::timed` meets its contract. Assumes nothing.
 use borrow.Author.Needs.{needs}
 use Rattle.velbus.proofs.parts.timed.Statement.{statement}
 use Rattle.velbus.proofs.parts.timed.Tie as tie
