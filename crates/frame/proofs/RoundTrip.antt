@@ -6,14 +6,14 @@ use mathlib.Core.Path.{_≡_, refl, sym, ap, _∙_}
 use mathlib.Core.List.{List, [], _∷_}
 use mathlib.Core.Bool.{Bool, true, false, cond}
 use lib.ListN.{length, take}
-use lib.Dec.{eqb, leb, lit<}
+use lib.Dec.{eqb, lit<}
 use borrow.Author.Tests.{eqb-true, eq-eqb}
-use Rattle.laws.specs.Tests.{among, unless, unlessRefused}
+use Rattle.laws.specs.Tests.{among, unlessRefused}
 use Rattle.laws.specs.Refusals.{badType, wrongPriority}
 use Rattle.laws.proofs.Testing.{nonzero, held, holds, unrefused, unrefused-is}
-use Rattle.frame.specs.Identifiers.{low, priorityOf, addressOf, identifierOf, plainIdentifier}
-use Rattle.frame.specs.Rows.{handedTypes, moduleTypes, rowFor}
-use Rattle.frame.specs.Bytes.{byte, dataOf, bytesOf, dataBytes}
+use Rattle.frame.specs.Identifiers.{low, priorityOf, addressOf, identifierOf}
+use Rattle.frame.specs.Rows.{handedTypes, rowFor}
+use Rattle.frame.specs.Bytes.{byte, dataOf, dataBytes}
 use Rattle.frame.specs.Messages.{typeCommand, decode, encode}
 use Rattle.frame.specs.Fields.{fault}
 use Rattle.frame.specs.Reading.{frameRefusal, ownType, commandRefusal, requestRead, commandRead, reading}

@@ -15,7 +15,7 @@ use Rattle.frame.specs.Bytes.{byte}
 use Rattle.frame.specs.Messages.{Reader, readers, unlisted, typeCommand, typeFrame, decode}
 use Rattle.frame.specs.declared.messages.Command.{Command}
 use Rattle.picture.specs.Places.{places}
-use Rattle.picture.specs.Runs.{Run, noRun, runOf, typeEntered, commandOf, cellCommands, nameCommands, ledCommands, blindCommands}
+use Rattle.picture.specs.Runs.{noRun, runOf, typeEntered, commandOf, cellCommands, nameCommands, ledCommands, blindCommands}
 use Rattle.picture.specs.Fitting.{endOf}
 use Rattle.picture.specs.Bytes.{toldBytes}
 

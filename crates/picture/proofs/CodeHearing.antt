@@ -8,7 +8,7 @@
 -- Assumes nothing.
 use Prim.Native.Nat.{ℕ, _<_, _≤_}
 use native.Mathlib.Omega.{arith}
-use mathlib.Core.Path.{_≡_, refl, sym, ap, _∙_}
+use mathlib.Core.Path.{_≡_, refl, sym, _∙_}
 use mathlib.Core.Bool.{Bool, true, false, cond, _&&_}
 use mathlib.Core.List.{List}
 use lib.Dec.{eqb, ltb}
@@ -17,10 +17,10 @@ use borrow.Author.Tests.{eqb-true, eq-eqb, ne-eqb, ltb-true}
 use Rattle.laws.specs.Tests.{among}
 use Rattle.frame.specs.Identifiers.{addressOf}
 use Rattle.frame.specs.Rows.{noType, moduleTypes}
-use Rattle.frame.specs.Bytes.{byte, dataOf}
+use Rattle.frame.specs.Bytes.{byte}
 use Rattle.frame.specs.Messages.{typeCommand}
 use Rattle.frame.specs.Reading.{reading, readingNumber}
-use Rattle.frame.specs.declared.messages.Message.the-variants.{TypeRequest, Tells}
+use Rattle.frame.specs.declared.messages.Message.the-variants.{Tells}
 use Rattle.frame.specs.declared.reader.Reading.the-variants.{Read}
 use Rattle.frame.proofs.Numbers.{refused-as, accepted-as}
 use Rattle.picture.specs.Layout.{slotAt, recordAt}
@@ -28,7 +28,7 @@ use Rattle.picture.specs.Limits.{room, busAddress}
 use Rattle.picture.specs.Places.{places}
 use Rattle.picture.specs.Runs.{noRun, runOf, commandOf}
 use Rattle.picture.specs.Fitting.{endOf}
-use Rattle.picture.specs.Result.{Result, refusing, done}
+use Rattle.picture.specs.Result.{refusing, done}
 use Rattle.picture.specs.Bytes.{modulesOf, noSlot, believed, slotOf, kindIn, naming, hearingCommand, hearingMessage, hearingReading, hearingAt}
 use Rattle.picture.proofs.Fitting.{read-accepted, runs-fit}
 

@@ -7,9 +7,9 @@ use native.Mathlib.Omega.{arith}
 use lib.ListN.{length, take, drop, length-append}
 use lib.Seq.{take-at}
 use Rattle.replay.specs.declared.window.Stream.{Stream}
-use Rattle.replay.specs.Replay.{Hearing, Run, replayed}
+use Rattle.replay.specs.Replay.{Hearing, Run}
 use Rattle.replay.specs.Window.{kept}
-use Rattle.replay.specs.Parts.{Parts, noParts, onePart, allParts, joined, streamOf, Held, readBehind, oneTurn, allTurns, atFirst}
+use Rattle.replay.specs.Parts.{Parts, noParts, onePart, allParts, streamOf, Held, readBehind, oneTurn, allTurns, atFirst}
 use Rattle.replay.specs.Statements.{TurnsAreReplay}
 use Rattle.replay.proofs.Calls.{call-is-part}
 use Rattle.replay.proofs.Turns.{parts-are-whole}

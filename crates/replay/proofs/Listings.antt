@@ -3,9 +3,8 @@
 --     sum-none, sum-more, modules-none, modules-more    the start and a turn of a loop that counts, and of the one over the addresses
 --     listing-fits               the longest listing
 -- Assumes nothing.
-use mathlib.Core.Path.{_≡_, refl, ap, _∙_}
+use mathlib.Core.Path.{_≡_, refl, ap}
 use mathlib.Core.List.{List, [], _++_}
-use mathlib.Core.Bool.{cond}
 use Prim.Native.Nat.{ℕ, zero, suc, _+_, _*_, _%_, _≤_}
 use native.Mathlib.Numerals.{add-one}
 use native.Mathlib.Omega.{arith}
@@ -18,7 +17,7 @@ use Rattle.picture.specs.Places.{cell, nameLength, extentOf}
 use Rattle.picture.specs.Questions.{numberAnswer, typeAnswer, nameWhole, sumTo}
 use Rattle.picture.specs.Limits.{addresses}
 use Rattle.picture.specs.Limits.{notHeard}
-use Rattle.replay.specs.Replay.{one, isDone}
+use Rattle.replay.specs.Replay.{isDone}
 use Rattle.replay.specs.Sheets.{wholeName, toldIf, toldCell, wholeNames, toldCells}
 use Rattle.replay.specs.Lines.{header, brokenLine, countLine}
 use Rattle.replay.specs.Listing.{sheetText, typedText, moduleText, modulesText, faultText, listingText}

@@ -2,7 +2,7 @@
 -- Assumes nothing.
 use Prim.Native.Nat.{ℕ, _+_, _/_, _≤_, _<_}
 use native.Mathlib.Omega.{arith}
-use mathlib.Core.Path.{_≡_, refl, sym, ap, _∙_}
+use mathlib.Core.Path.{_≡_, refl, ap, _∙_}
 use mathlib.Core.List.{List, _++_}
 use mathlib.Core.Bool.{Bool, true, false, cond}
 use lib.ListN.{length, drop, length-append}
@@ -20,8 +20,6 @@ use Rattle.frame.specs.Bytes.{dataOf, bytesOf}
 use Rattle.frame.specs.Messages.{decode}
 use Rattle.frame.specs.Fields.{lastCell, lastStart, locationFault, timeAllowed, timedFault, blind, fault}
 use Rattle.frame.specs.Reading.{frameRefusal, ownType, commandRefusal, requestRead, commandRead, reading}
-use Rattle.frame.specs.Writing.{writing}
-use Rattle.frame.specs.Statements.{Bytes, Gives}
 use Rattle.frame.specs.declared.bytes.Data.{Data}
 use Rattle.frame.specs.declared.identifiers.Address.{Address}
 use Rattle.frame.specs.declared.messages.Location.{Location}
@@ -37,7 +35,7 @@ use Rattle.frame.proofs.RoundTrip.{refused-not-read, read-then-written}
 use Rattle.velbus.specs.Parts.{timeSeconds, commandParts, partsOf}
 use Rattle.velbus.specs.Layout.{messageSize, laidBytes, heldIn}
 use Rattle.velbus.specs.Frames.{heldWord, heldInto, readInto, writeWord, writeInto}
-use Rattle.velbus.specs.Statements.{Fitting, WritesAgain, ReadThenWrittenAgain}
+use Rattle.velbus.specs.Statements.{Fitting, ReadThenWrittenAgain}
 use Rattle.velbus.specs.declared.parts.Held.the-variants.{Holds}
 use Rattle.velbus.proofs.Held.{laid-is-held}
 

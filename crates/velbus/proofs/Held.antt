@@ -2,9 +2,9 @@
 -- Assumes nothing.
 use Prim.Native.Nat.{ℕ, _+_, _*_, _/_, _%_, _<_, _≤_}
 use native.Mathlib.Omega.{arith}
-use mathlib.Core.Path.{_≡_, refl, ap, _∙_}
+use mathlib.Core.Path.{_≡_, refl}
 use mathlib.Core.List.{List, _++_}
-use mathlib.Core.Bool.{true, cond, _&&_}
+use mathlib.Core.Bool.{true}
 use lib.Dec.{eqb}
 use lib.ListN.{length, length-append}
 use borrow.Author.Tests.{eq-eqb, le-ltb}
@@ -17,10 +17,10 @@ use Rattle.frame.specs.declared.messages.Message.{Message}
 use Rattle.frame.specs.declared.messages.Message.the-variants.{TypeRequest, Tells}
 use Rattle.velbus.specs.declared.parts.Six.{Six}
 use Rattle.velbus.specs.declared.parts.Parts.{Parts}
-use Rattle.velbus.specs.declared.parts.Held.the-variants.{Holds, Nothing}
+use Rattle.velbus.specs.declared.parts.Held.the-variants.{Holds}
 use Rattle.velbus.specs.Parts.{commandParts, partsOf, commandFrom, messageFrom, addressIn, sameSix, sameParts, heldBy}
 use Rattle.velbus.specs.Layout.{messageSize, laidBytes, takenParts, blankBetween, heldIn}
-use Rattle.velbus.specs.Statements.{Fitting, LaidIsHeld}
+use Rattle.velbus.specs.Statements.{LaidIsHeld}
 
 -- The parts of a message make the message.
 

@@ -1,6 +1,6 @@
 -- Frames read into a lent message, and messages written into a lent frame: the result word, and what the buffer then holds.
 use Prim.Native.Nat.{ℕ, _/_, _%_}
-use mathlib.Core.List.{List, [], _∷_}
+use mathlib.Core.List.{List, _∷_}
 use mathlib.Core.Bool.{cond}
 use lib.Dec.{ltb}
 use lib.ListN.{length}

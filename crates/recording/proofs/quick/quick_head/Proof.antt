@@ -3,7 +3,7 @@ use mathlib.Core.Path.{_≡_, refl}
 use native.Mathlib.Omega.{arith}
 use borrow.Author.Needs.{needs}
 use Rattle.recording.specs.declared.numbers.Number.the-variants.{Value}
-use Rattle.recording.specs.Limits.{mostGap, gapGroups, mostWord, wordGroups}
+use Rattle.recording.specs.Limits.{mostGap, gapGroups, wordGroups}
 use Rattle.recording.specs.Number.{numberAt}
 use Rattle.recording.proofs.Reading.{value-at, nothing-found}
 use Rattle.recording.proofs.Entries.{headed, head-room}

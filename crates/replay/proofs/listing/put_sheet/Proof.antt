@@ -1,10 +1,9 @@
 -- `replay::listing::put_sheet` meets its contract. Assumes nothing.
 use Prim.Native.Nat.{ℕ, _%_}
-use mathlib.Core.Path.{_≡_, ap, subst, _∙_}
+use mathlib.Core.Path.{ap, subst, _∙_}
 use mathlib.Core.List.{List}
 use borrow.Author.Needs.{needs}
 use Rattle.picture.specs.declared.Extent.{Extent}
-use Rattle.picture.specs.Places.{extentOf}
 use Rattle.replay.specs.Text.{Written}
 use Rattle.replay.specs.Lines.{moduleLine}
 use Rattle.replay.specs.Sheets.{wholeNames, toldCells}

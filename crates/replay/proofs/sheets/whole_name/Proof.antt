@@ -1,5 +1,5 @@
 -- `replay::sheets::whole_name` meets its contract. Assumes nothing.
-use mathlib.Core.Path.{_≡_, ap, sym, _∙_}
+use mathlib.Core.Path.{ap, sym, _∙_}
 use borrow.Author.Needs.{needs}
 use Rattle.picture.specs.declared.Outcome.{Outcome}
 use Rattle.replay.specs.Replay.{one, isDone}

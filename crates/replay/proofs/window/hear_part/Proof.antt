@@ -1,13 +1,12 @@
 -- `replay::window::hear_part` meets its contract. Assumes nothing.
 use Prim.Native.Nat.{ℕ, _≤_}
-use mathlib.Core.Path.{_≡_, ap, sym, _∙_}
+use mathlib.Core.Path.{_≡_, ap, _∙_}
 use native.Mathlib.Omega.{arith}
 use borrow.Author.Needs.{needs}
 use lib.ListN.{length, take}
 use lib.Seq.{length-take-le}
-use Rattle.replay.specs.declared.records.Replay.{Replay}
 use Rattle.replay.specs.Replay.{heardBy, replayed}
-use Rattle.replay.specs.Window.{shifted, advanced, filledBy, turnOver}
+use Rattle.replay.specs.Window.{shifted, advanced, turnOver}
 use Rattle.replay.proofs.Runs.{stops-inside}
 use Rattle.replay.proofs.window.hear_part.Statement.{statement}
 use Rattle.replay.proofs.window.hear_part.Tie as tie
