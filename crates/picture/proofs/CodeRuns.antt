@@ -2,12 +2,13 @@
 -- Assumes nothing.
 use Prim.Native.Nat.{ℕ, zero, suc, _+_, _-_, _*_, _≤_, _<_}
 use native.Mathlib.Omega.{arith}
+use native.Mathlib.Nat.{add-zero}
 use mathlib.Core.Path.{_≡_, refl, _∙_}
 use mathlib.Core.Bool.{true}
 use mathlib.Core.Logic.{_≢_}
 use mathlib.Core.List.{List, [], _∷_}
 use lib.Dec.{ltb, leb}
-use lib.ListN.{getD, take, drop}
+use lib.ListN.{getD, set, take, drop}
 use lib.Seq.{getD-set-other, getD-drop, take-nil}
 use borrow.Author.Tests.{ltb-true, leb-true}
 use Rattle.laws.proofs.Testing.{and-both}
@@ -33,6 +34,15 @@ unfolding stored copied
 loaded-copied b to from zero h = refl
 loaded-copied b to from (suc n) h =
     rw (← loaded-copied b to from n (omega arith), stored-beside b to (drop from b) n (from + n) (λ j l e. omega arith), getD-drop from b n 0)
+
+-- ---- eight bytes, each stored by itself
+pub stored-eight : (b : List ℕ) (o : ℕ) (row : List ℕ) → set (set (set (set (set (set (set (set b o (getD row 0 0)) (o + 1) (getD row 1 0)) (o + 2) (getD row 2 0)) (o + 3) (getD row 3 0)) (o + 4) (getD row 4 0)) (o + 5) (getD row 5 0)) (o + 6) (getD row 6 0)) (o + 7) (getD row 7 0) ≡ stored b o row 8
+unfolding stored
+stored-eight b o row = simp add-zero
+
+pub copied-eight : (b : List ℕ) (to from : ℕ) → 8 ≤ (to - from) + (from - to) → set (set (set (set (set (set (set (set b to (getD b from 0)) (to + 1) (getD b (from + 1) 0)) (to + 2) (getD b (from + 2) 0)) (to + 3) (getD b (from + 3) 0)) (to + 4) (getD b (from + 4) 0)) (to + 5) (getD b (from + 5) 0)) (to + 6) (getD b (from + 6) 0)) (to + 7) (getD b (from + 7) 0) ≡ copied b to from 8
+unfolding stored
+copied-eight b to from h = rw (← loaded-copied b to from 8 h) (simp (getD-drop, add-zero))
 
 -- ---- bytes copied in two goes: m of them, and then n more
 copied-on : (b : List ℕ) (to from m n : ℕ) → copied (copied b to from m) (to + m) (from + m) n ≡ copied b to from (m + n)

@@ -21,7 +21,7 @@ ghost use lib.ListN.{length, replicate};
 ghost use Rattle.picture.specs.Layout.{placeAt, size};
 ghost use Rattle.picture.specs.Places.{places, yearPlace};
 ghost use Rattle.picture.specs.Limits.{room};
-ghost use Rattle.picture.specs.Runs.{tells, sayingOf, noRun, telling, asking, sixOf, buildTold, allLeds, someLeds};
+ghost use Rattle.picture.specs.Runs.{bit, tells, sayingOf, noRun, telling, asking, sixOf, buildTold, allLeds, someLeds};
 ghost use Rattle.picture.specs.Bytes.{putAt, written, toldBytes};
 
 // Four neighbouring places told.
@@ -146,6 +146,17 @@ fn put_if(picture: &mut [u8], at: usize, says: u8, value: u8)
     }
 }
 
+// Four neighbouring places, each by its bit of the mask, from bit i on.
+fn put_some(picture: &mut [u8], at: usize, mask: u8, i: u32, value: u8)
+    requires { ⌜ (at + 8 ≤ length (now picture)) × (i ≤ 4) ⌝ }
+    ensures { λ _. ⌜ now (picture .exit) ≡ written (now (picture .entry)) at (sayingOf (bit mask i) value ∷ sayingOf (bit mask (i + 1)) value ∷ sayingOf (bit mask (i + 2)) value ∷ sayingOf (bit mask (i + 3)) value ∷ []) ⌝ }
+{
+    put_if(picture, at, bit(mask, i), value);
+    put_if(picture, at + 2, bit(mask, i + 1), value);
+    put_if(picture, at + 4, bit(mask, i + 2), value);
+    put_if(picture, at + 6, bit(mask, i + 3), value);
+}
+
 // The LEDs that the mask names.
 pub(crate) fn tell_some_leds(picture: &mut [u8], slot: u8, mask: u8, state: u8)
     requires { ⌜ (size ≤ length (now picture)) × (slot < room) ⌝ }
@@ -153,13 +164,7 @@ pub(crate) fn tell_some_leds(picture: &mut [u8], slot: u8, mask: u8, state: u8)
 {
     save_eight(picture, slot, LEDS);
     let at = place_at(slot, LEDS);
-    put_if(picture, at, bit(mask, 0), state);
-    put_if(picture, at + 2, bit(mask, 1), state);
-    put_if(picture, at + 4, bit(mask, 2), state);
-    put_if(picture, at + 6, bit(mask, 3), state);
-    put_if(picture, at + 8, bit(mask, 4), state);
-    put_if(picture, at + 10, bit(mask, 5), state);
-    put_if(picture, at + 12, bit(mask, 6), state);
-    put_if(picture, at + 14, bit(mask, 7), state);
+    put_some(picture, at, mask, 0, state);
+    put_some(picture, at + 8, mask, 4, state);
     step_on(picture);
 }

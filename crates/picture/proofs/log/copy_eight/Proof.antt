@@ -1,11 +1,8 @@
 -- `picture::log::copy_eight` meets its contract. Assumes nothing.
 use native.Mathlib.Omega.{arith}
-use native.Mathlib.Nat.{add-zero}
 use lib.ListN.{length-set}
-use lib.Seq.{getD-drop}
 use borrow.Author.Needs.{needs}
-use Rattle.picture.specs.Bytes.{stored}
-use Rattle.picture.proofs.CodeRuns.{loaded-copied}
+use Rattle.picture.proofs.CodeRuns.{copied-eight}
 use Rattle.picture.proofs.log.copy_eight.Statement.{statement}
 use Rattle.picture.proofs.log.copy_eight.Tie as tie
 
@@ -13,9 +10,7 @@ same-length : tie.Need-same-length
 same-length c = simp length-set
 
 returns : tie.Need-returns
-unfolding stored
-returns c = let a = c .before .before .before .before .before .before .before .before .args in
-    rw (← loaded-copied (a .picture .now) (a .to) (a .from) 8 (c .before .before .before .before .before .before .before .before .pre .0)) (simp (getD-drop, add-zero))
+returns c = copied-eight _ _ _ (c .before .before .before .before .before .before .before .before .pre .0)
 
 pub copy-eight-spec : {M : Type 1} → statement M
 copy-eight-spec =

@@ -1,9 +1,8 @@
 -- `picture::log::store_row` meets its contract. Assumes nothing.
 use native.Mathlib.Omega.{arith}
-use native.Mathlib.Nat.{add-zero}
 use lib.ListN.{length-set}
 use borrow.Author.Needs.{needs}
-use Rattle.picture.specs.Bytes.{stored}
+use Rattle.picture.proofs.CodeRuns.{stored-eight}
 use Rattle.picture.proofs.log.store_row.Statement.{statement}
 use Rattle.picture.proofs.log.store_row.Tie as tie
 
@@ -11,8 +10,7 @@ same-length : tie.Need-same-length
 same-length c = simp length-set
 
 returns : tie.Need-returns
-unfolding stored
-returns c = simp add-zero
+returns c = stored-eight _ _ _
 
 pub store-row-spec : {M : Type 1} → statement M
 store-row-spec =
