@@ -28,7 +28,8 @@ use Rattle.frame.specs.declared.writer.Writing.{Writing}
 use Rattle.frame.specs.declared.writer.Writing.the-variants as writer
 use Rattle.frame.proofs.Judged.{module-some}
 use Rattle.frame.proofs.Shapes.{type-frame}
-use Rattle.demands.specs.Order.{Test, _or_, Verdict, answers, refuses, verdict, commandOf, formTests, requestTests, rowTests, typeTests, otherTests, dataTests, frameOrder, readerOrder, typeWritten, otherWritten, writerOrder}
+use Rattle.picture.specs.Runs.{commandOf}
+use Rattle.demands.specs.Order.{Test, _or_, Verdict, answers, refuses, verdict, formTests, requestTests, rowTests, typeTests, otherTests, dataTests, frameOrder, readerOrder, typeWritten, otherWritten, writerOrder}
 use Rattle.demands.specs.Demand1.{ofReading, ofWriting}
 use Rattle.demands.proofs.Orders.{unlesses, numbered, refused-or, either-order}
 

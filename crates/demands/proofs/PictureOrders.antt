@@ -22,13 +22,13 @@ use Rattle.picture.specs.declared.Outcome.{Outcome}
 use Rattle.picture.specs.declared.Outcome.the-variants as outcome
 use Rattle.picture.specs.Limits.{room, busAddress}
 use Rattle.picture.specs.Layout.{headSize}
-use Rattle.picture.specs.Runs.{Run, runOf, typeEntered}
+use Rattle.picture.specs.Runs.{Run, runOf, typeEntered, commandOf}
 use Rattle.picture.specs.Result.{Result, refusing, done}
 use Rattle.picture.specs.Bytes.{short, modulesOf, keptOf, kindIn, entering, hearingCommand, hearingMessage, hearingReading, hearingAt, hearing, toldBytes, exchangedBytes, enteredBytes, steppingBack, zeroed, freshening}
 use Rattle.history.specs.Standing.{Event, hear}
 use Rattle.history.specs.Demand3.{doing}
 use Rattle.history.proofs.Refused.{refused-keeps}
-use Rattle.demands.specs.Order.{Test, _or_, Verdict, answers, refuses, verdict, commandOf, frameOrder, pictureTest, slotHeard, roomTest, hearingOrder, backOrder}
+use Rattle.demands.specs.Order.{Test, _or_, Verdict, answers, refuses, verdict, frameOrder, pictureTest, slotHeard, roomTest, hearingOrder, backOrder}
 use Rattle.demands.specs.Demand1.{ofOutcome, Call, Pictures}
 use Rattle.demands.proofs.Orders.{answers-refuses, call-fault, call-done, answer-fault}
 use Rattle.demands.proofs.FrameOrders.{reader-order}

@@ -8,14 +8,15 @@ use Rattle.laws.specs.Refusals.{badIdentifier, badForm, badPriority, badType, t
 use Rattle.laws.specs.Tests.{among}
 use Rattle.frame.specs.Identifiers.{low, priorities, priorityOf, plainIdentifier, wellFormed}
 use Rattle.frame.specs.Rows.{noType, moduleTypes, handedTypes, rowFor, isListed}
-use Rattle.frame.specs.Bytes.{byte, dataOf, bytesOf}
-use Rattle.frame.specs.Messages.{typeCommand, decode, encode}
+use Rattle.frame.specs.Bytes.{byte}
+use Rattle.frame.specs.Messages.{typeCommand, encode}
 use Rattle.frame.specs.Fields.{fault}
 use Rattle.frame.specs.declared.messages.Command.{Command}
 use Rattle.frame.specs.declared.messages.Message.{Message}
 use Rattle.frame.specs.declared.messages.Message.the-variants.{TypeRequest, Tells}
 use Rattle.picture.specs.Limits.{room, addresses, busAddress}
 use Rattle.picture.specs.Places.{places, nameLength, extentOf, Asked, placeAsked, hasName}
+use Rattle.picture.specs.Runs.{commandOf}
 use Rattle.picture.specs.Bytes.{short, modulesOf, keptOf, slotOf, kindIn}
 use Rattle.picture.specs.Questions.{slotAsked, characterHeard, sumTo}
 use Rattle.recording.specs.Write.{inRange, recordBytes}
@@ -44,10 +45,6 @@ verdict [] = answers
 verdict (t ∷ ts) = cond (t .passes) (verdict ts) (refuses (t .number))
 
 -- ---- frames
--- the command that the data bytes are
-abbrev pub commandOf : List ℕ → Command
-commandOf s = decode (bytesOf (dataOf s))
-
 -- a bad handed-in type (4), 1, 2, 3
 abbrev pub formTests : ℕ → ℕ → ℕ → List ℕ → List Test
 formTests kind identifier remote s =

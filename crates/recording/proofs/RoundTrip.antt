@@ -25,7 +25,8 @@ use Rattle.recording.specs.Limits.{mostGap, gapGroups, mostWord, wordGro
 use Rattle.recording.specs.Number.{readNumber, numberAt, numberBytes, joined}
 use Rattle.recording.specs.Record.{after, readData, readCount, readWord, readRecord}
 use Rattle.recording.specs.Write.{inRange, recordBytes, putAnswer, putBytes, placed}
-use Rattle.recording.specs.Statements.{AllBytes, StandsAt, BytesReadBack, WrittenIsRead, ReadIsWritten}
+use Rattle.laws.specs.Limits.{AllBytes}
+use Rattle.recording.specs.Statements.{StandsAt, BytesReadBack, WrittenIsRead, ReadIsWritten}
 use Rattle.recording.proofs.Reading.{step, number-within, Within, value-at}
 use Rattle.recording.proofs.Writing.{bytes-last, bytes-more, record-length, Ranged, ranged, put-done}
 use Rattle.recording.proofs.Entries.{entry-elim, records-are-whole}

@@ -4,19 +4,16 @@ use mathlib.Core.Path.{_≡_}
 use mathlib.Core.List.{List, _++_, map}
 use mathlib.Core.Bool.{true, false}
 use mathlib.Core.Logic.{_⊎_}
-use lib.ListN.{length, take, drop, getD}
+use lib.ListN.{length, take, drop}
 use Rattle.recording.specs.declared.records.Entry.the-variants.{Record, Broken}
 use Rattle.recording.specs.declared.writes.Put.the-variants.{Wrote}
 use Rattle.laws.specs.Refusals.{cutOff, badNumber}
+use Rattle.laws.specs.Limits.{AllBytes}
 use Rattle.recording.specs.Limits.{longest}
 use Rattle.recording.specs.Record.{readRecord}
 use Rattle.recording.specs.Write.{inRange, recordBytes, putAnswer, putBytes}
 use Rattle.recording.specs.Window.{settled, further}
 use Rattle.recording.specs.Examples.{examples, Row}
-
--- every element is a byte, as every element of a `&[u8]` is
-abbrev pub AllBytes : List ℕ → Type 0
-AllBytes s = (i : ℕ) → getD s i 0 < 256
 
 -- a record's numbers are in range, and it lies between `at` and the end of the n bytes
 pub record Whole (n at gap identifier remote start len next : ℕ) : Type 0 where

@@ -3,10 +3,10 @@ use Prim.Native.Nat.{ℕ, _<_, _≤_}
 use mathlib.Core.Path.{_≡_}
 use mathlib.Core.List.{List, _++_}
 use lib.ListN.{length}
+use Rattle.laws.specs.Limits.{AllBytes}
 use Rattle.laws.specs.Copies.{copiedIn}
 use Rattle.frame.specs.Bytes.{dataBytes}
 use Rattle.frame.specs.Reading.{reading}
-use Rattle.frame.specs.Statements.{Bytes}
 use Rattle.frame.specs.declared.reader.Reading.the-variants.{Read}
 use Rattle.frame.specs.declared.writer.Frame.{Frame}
 use Rattle.frame.specs.declared.identifiers.Address.{Address}
@@ -39,7 +39,7 @@ pub record WritesAgain (kind : ℕ) (message out : List ℕ) (identifier remote 
 abbrev pub ReadThenWrittenAgain : Type 0
 ReadThenWrittenAgain =
     (kind identifier remote : ℕ) (s message out : List ℕ) (a : Address) (m : Message) →
-    Bytes s →
+    AllBytes s →
     messageSize ≤ length message →
     reading kind identifier remote s ≡ Read a m →
     WritesAgain kind (readInto (reading kind identifier remote s) message) out identifier remote s
