@@ -51,7 +51,7 @@ enum { VELBUS_LED_OFF = 0, VELBUS_LED_ON = 1, VELBUS_LED_SLOW = 2, VELBUS_LED_FA
 enum { VELBUS_BLIND_OFF = 0, VELBUS_BLIND_UP = 1, VELBUS_BLIND_DOWN = 2 };
 
 #define VELBUS_MODULES 16         /* the most modules of a picture */
-#define VELBUS_PICTURE_SIZE 17200 /* bytes of a picture; velbus_picture_size() gives the same number */
+#define VELBUS_PICTURE_SIZE 17456 /* bytes of a picture; velbus_picture_size() gives the same number */
 #define VELBUS_MESSAGE_SIZE 20    /* bytes of a message */
 #define VELBUS_FRAME_SIZE 12      /* bytes of a written frame */
 #define VELBUS_NAME_SIZE 16       /* characters of a name */

@@ -8,9 +8,9 @@ use Rattle.frame.specs.declared.writer.Writing.{Writing}
 use Rattle.frame.specs.declared.writer.Writing.the-variants.{Written, Refused}
 use Rattle.frame.proofs.Accepted.{every-frame, every-request}
 use Rattle.frame.proofs.RoundTrip.{read-then-written, written-then-read}
-use Rattle.picture.specs.Limits.{addresses}
+use Rattle.places.specs.Limits.{addresses}
 use Rattle.history.proofs.Speaks.{speaks-of}
-use Rattle.picture.proofs.Fitting.{runs-lie, runs-fit}
+use Rattle.places.proofs.Fitting.{runs-lie, runs-fit}
 use Rattle.history.proofs.Effects.{effects, hears-command, hears-entry, hears-exchange}
 use Rattle.velbus.proofs.Held.{laid-is-held}
 use Rattle.velbus.proofs.Again.{read-then-written-again}

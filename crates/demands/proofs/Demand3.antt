@@ -4,10 +4,10 @@ use native.Mathlib.Omega.{arith}
 use mathlib.Core.Path.{_≡_, refl, ap, _∙_}
 use mathlib.Core.List.{List, map}
 use lib.ListN.{length, take, drop}
-use Rattle.picture.specs.declared.Outcome.{Outcome}
-use Rattle.picture.specs.declared.Outcome.the-variants.{Done, Refused}
-use Rattle.picture.specs.Layout.{size}
-use Rattle.picture.specs.Bytes.{hearing}
+use Rattle.places.specs.declared.answers.Outcome.{Outcome}
+use Rattle.places.specs.declared.answers.Outcome.the-variants.{Done, Refused}
+use Rattle.places.specs.Layout.{size}
+use Rattle.picture.specs.Hearing.{hearing}
 use Rattle.history.specs.Standing.{Frame, Event, hear, back, kept, outcomeOf, granted, answered}
 use Rattle.history.specs.Demand3.{doing, runsBytes}
 use Rattle.history.proofs.Demand3.{demand-3 as shows-standing}

@@ -8,14 +8,16 @@ use mathlib.Core.List.{List, [], _∷_, _++_}
 use mathlib.Core.Bool.{Bool, true, false, not, cond}
 use lib.Dec.{eqb, leb}
 use lib.ListN.{length}
-use borrow.Author.Tests.{eqb-true}
-use Rattle.laws.specs.Refusals.{badType, typeNotKnown, notListed, wrongLength}
+use native.Mathlib.Omega.{arith}
+use borrow.Author.Tests.{eqb-true, ne-eqb}
+use Rattle.laws.specs.Refusals.{badType, typeNotKnown, notListed, wrongLength, badField}
 use Rattle.laws.specs.Tests.{among, unless, unlessRefused}
-use Rattle.laws.proofs.Testing.{among-each}
+use Rattle.laws.proofs.Keys.{for-each}
 use Rattle.frame.specs.Identifiers.{priorityOf, addressOf}
-use Rattle.frame.specs.Rows.{noType, moduleTypes, handedTypes, isListed}
+use Rattle.frame.specs.Types.{noType, moduleTypes, handedTypes, rowsOf, rowFor, isListed}
 use Rattle.frame.specs.Bytes.{byte, dataOf}
 use Rattle.frame.specs.Messages.{typeCommand, encode}
+use Rattle.frame.specs.Fields.{fault}
 use Rattle.frame.specs.Reading.{rowRefusal, reading, requestRead, commandRead}
 use Rattle.frame.specs.Writing.{handedRefusal, writeRefusal, commandFrame, writing, commandWritten, writtenAs}
 use Rattle.frame.specs.declared.identifiers.Address.{Address}
@@ -26,16 +28,16 @@ use Rattle.frame.specs.declared.reader.Reading.{Reading}
 use Rattle.frame.specs.declared.reader.Reading.the-variants as reader
 use Rattle.frame.specs.declared.writer.Writing.{Writing}
 use Rattle.frame.specs.declared.writer.Writing.the-variants as writer
-use Rattle.frame.proofs.Judged.{module-some}
-use Rattle.frame.proofs.Shapes.{type-frame}
-use Rattle.picture.specs.Runs.{commandOf}
+use Rattle.frame.proofs.Listed.{listed-module, module-some}
+use Rattle.places.specs.Runs.{commandOf}
 use Rattle.demands.specs.Order.{Test, _or_, Verdict, answers, refuses, verdict, formTests, requestTests, rowTests, typeTests, otherTests, dataTests, frameOrder, readerOrder, typeWritten, otherWritten, writerOrder}
 use Rattle.demands.specs.Demand1.{ofReading, ofWriting}
 use Rattle.demands.proofs.Orders.{unlesses, numbered, refused-or, either-order}
 
 -- FF is in the list of each type, so that 6 is never given of it
 type-listed : (k c : ℕ) → eqb c typeCommand ≡ true → among k moduleTypes ≡ true → isListed k c ≡ true
-type-listed k c h m = rw (eqb-true c typeCommand h) (among-each (λ (k : ℕ). isListed k typeCommand ≡ true) k moduleTypes (refl, (refl, tt)) m)
+unfolding rowsOf
+type-listed k c h m = rw (eqb-true c typeCommand h) (for-each (λ k. isListed k typeCommand) moduleTypes refl k m)
 
 never-six : (k c later : ℕ) → eqb c typeCommand ≡ true
     → unless (among k moduleTypes) badType (unless (isListed k c) notListed later) ≡ unless (among k moduleTypes) badType later
@@ -86,6 +88,10 @@ pub reads : (kind identifier remote : ℕ) (s : List ℕ) → ofReading (reading
 reads kind identifier remote s = reader-order ofReading (λ n. refl) [] kind identifier remote s refl (λ q. refl) (λ q. refl)
 
 -- ---- the writer
+begun-nonempty : (s : List ℕ) → eqb (byte 1 s) typeCommand ≡ true → length s ≡ 0 → ⊥
+begun-nonempty [] q e = let z : _≡_ {A = ℕ} 0 1 = cc in omega arith
+begun-nonempty (x ∷ s) q e = omega arith
+
 module _ (kind : ℕ) (a : Address) (m : Command) where
   abbrev first : ℕ
   first = byte 1 (encode m)
@@ -93,9 +99,19 @@ module _ (kind : ℕ) (a : Address) (m : Command) where
   abbrev second : ℕ
   second = byte 2 (encode m)
 
-  -- FF has a type, and is in its list
+  -- FF of the right length has a type, and is in its list
   only-nine : eqb first typeCommand ≡ true → writeRefusal second (dataOf (encode m)) m ≡ unlesses (typeWritten m)
-  only-nine q = let t = type-frame m q .1 in rw (module-some second t, type-listed second first q t)
+  only-nine q = rw (eqb-true first typeCommand q) (go (eqb (length (encode m)) (rowFor second typeCommand .0)) (eqb-true (length (encode m)) (rowFor second typeCommand .0)))
+    where
+      nine : ℕ
+      nine = unless (eqb (fault second m) 0) badField 0
+
+      go : (c : Bool) → (c ≡ true → length (encode m) ≡ rowFor second typeCommand .0)
+          → unless c badType (unless (not (eqb second noType)) typeNotKnown (unless (isListed second typeCommand) notListed nine)) ≡ unless c badType nine
+      go true h =
+          let l : isListed second typeCommand ≡ true = rw (ne-eqb (rowFor second typeCommand .0) 0 (λ z. begun-nonempty (encode m) q (h refl ∙ z))) in
+          rw (module-some second (listed-module second typeCommand l), l)
+      go false h = refl
 
   abbrev written : ℕ → Writing
   written own = writer.Written (commandFrame own a (dataOf (encode m)))
@@ -111,7 +127,9 @@ module _ (kind : ℕ) (a : Address) (m : Command) where
   command-writes true q =
       ap (λ (later : ℕ). ofWriting (unlessRefused writer.Refused (handedRefusal kind later) (written second))) (only-nine q)
       ∙ handed-then second (typeWritten m) refl
-  command-writes false q = handed-then kind (otherWritten kind m) refl
+  command-writes false q =
+      let all : writeRefusal kind (dataOf (encode m)) m ≡ unlesses (otherWritten kind m) = rw q in
+      ap (λ (later : ℕ). ofWriting (unlessRefused writer.Refused (handedRefusal kind later) (written kind))) all ∙ handed-then kind (otherWritten kind m) refl
 
 pub writes : (kind : ℕ) (a : Address) (m : Message) → ofWriting (writing kind a m) ≡ verdict (writerOrder kind m)
 unfolding writing commandWritten writtenAs

@@ -12,9 +12,11 @@ use lib.Dec.{leb}
 use borrow.Author.Tests.{leb-true, ne-eqb}
 use Rattle.laws.specs.Tests.{unless, unlessRefused}
 use Rattle.laws.proofs.Testing.{and-both}
-use Rattle.picture.specs.Result.{Result, refusing, done}
+use Rattle.places.specs.Result.{Result, refusing, done}
+use Rattle.questions.specs.Question as question
+use Rattle.questions.specs.Question.{Reply}
 use Rattle.demands.specs.Order.{Test, _or_, Verdict, answers, refuses, verdict}
-use Rattle.demands.specs.Demand1.{ofOutcome, Decided, Call}
+use Rattle.demands.specs.Demand1.{ofOutcome, ofAnswer, Decided, Call, Replied}
 
 pub answers-refuses : {A : Type 0} {n : ℕ} → answers ≡ refuses n → A
 answers-refuses e = absurd (let z : _≡_ {A = ℕ} 0 1 = cc in omega arith)
@@ -72,6 +74,16 @@ module _ (out : List ℕ) (n : ℕ) (ts : List Test) (r : Result) where
 
 pub call-done : (out x : List ℕ) → Call [] out (done x)
 call-done out x = record { decides = refl; keeps = λ n e. answers-refuses e }
+
+module _ (out : List ℕ) (n : ℕ) (ts : List Test) (r : Reply) where
+  pub reply-test : (t : Bool) → Replied ts out r → Replied (t or n ∷ ts) out (cond t r (question.refusing n out))
+  reply-test t d = choice-test (λ v. v) out (λ (r : Reply). ofAnswer (r .answer)) (λ (r : Reply). r .buffer) n ts r (question.refusing n out) t d refl refl
+
+  pub reply-fault : (t : Bool) → Replied ts out r → Replied (not t or n ∷ ts) out (cond t (question.refusing n out) r)
+  reply-fault t d = choice-fault (λ v. v) out (λ (r : Reply). ofAnswer (r .answer)) (λ (r : Reply). r .buffer) n ts r (question.refusing n out) t d refl refl
+
+pub reply-done : (out : List ℕ) (v : ℕ) (x : List ℕ) → Replied [] out (question.value v x)
+reply-done out v x = record { decides = refl; keeps = λ n e. answers-refuses e }
 
 -- and of an answer that comes with no buffer
 module _ {A : Type 0} (of : A → Verdict) (n : ℕ) (ts : List Test) (x y : A) (goes-on : of x ≡ verdict ts) (refused : of y ≡ refuses n) where

@@ -1,30 +1,29 @@
--- The orders of hearing, of stepping back and of a fresh picture.
---     others-enter-none, type-enters   FF enters a type, and no other command does
---     pictures                         the three calls
--- Assumes nothing.
+-- The orders of hearing, of stepping back and of a fresh picture. Assumes nothing.
 use Prim.Native.Nat.{ℕ}
-use mathlib.Core.Path.{_≡_, refl, ap, sym, _∙_}
+use mathlib.Core.Path.{_≡_, refl, _∙_}
 use mathlib.Core.List.{List, [], _∷_}
-use mathlib.Core.Bool.{Bool, true, false, _&&_, _||_, cond}
+use mathlib.Core.Bool.{Bool, true, false, _||_, cond}
 use lib.Dec.{eqb, ltb}
-use borrow.Author.Tests.{eqb-true}
+use borrow.Author.Tests.{eqb-true, eqb-false}
 use Rattle.laws.specs.Refusals.{noRoom, nothingKept, tooShort}
-use Rattle.laws.specs.Tests.{firstFor}
-use Rattle.laws.proofs.Testing.{and-both, or-right}
-use Rattle.frame.specs.Rows.{vmb8ir}
-use Rattle.frame.specs.Bytes.{byte, dataOf, bytesOf}
-use Rattle.frame.specs.Messages.{typeCommand, Reader, readers, unlisted}
+use Rattle.frame.specs.Types.{rowFor}
+use Rattle.frame.specs.Bytes.{byte}
+use Rattle.frame.specs.Messages.{typeCommand, longType}
 use Rattle.frame.specs.Reading.{reading}
-use Rattle.frame.specs.declared.messages.Command.{Command}
-use Rattle.frame.specs.declared.messages.Command.the-variants.{TypeIr, TypeBl}
+use Rattle.frame.specs.declared.messages.Command.the-variants.{TypeLong, TypeShort}
 use Rattle.frame.specs.declared.reader.Reading.{Reading}
-use Rattle.picture.specs.declared.Outcome.{Outcome}
-use Rattle.picture.specs.declared.Outcome.the-variants as outcome
-use Rattle.picture.specs.Limits.{room, busAddress}
-use Rattle.picture.specs.Layout.{headSize}
-use Rattle.picture.specs.Runs.{Run, runOf, typeEntered, commandOf}
-use Rattle.picture.specs.Result.{Result, refusing, done}
-use Rattle.picture.specs.Bytes.{short, modulesOf, keptOf, kindIn, entering, hearingCommand, hearingMessage, hearingReading, hearingAt, hearing, toldBytes, exchangedBytes, enteredBytes, steppingBack, zeroed, freshening}
+use Rattle.places.specs.declared.answers.Outcome.{Outcome}
+use Rattle.places.specs.declared.answers.Outcome.the-variants as outcome
+use Rattle.places.specs.Limits.{room, busAddress}
+use Rattle.places.specs.Runs.{Run, meaningOf, meant, readAs, commandOf}
+use Rattle.places.specs.Result.{Result, refusing, done}
+use Rattle.places.specs.Layout.{headSize}
+use Rattle.places.specs.Head.{short, modulesOf, keptOf, kindIn}
+use Rattle.picture.specs.Stores.{zeroed}
+use Rattle.picture.specs.Hearing.{naming, exchangedBytes, enteredBytes, entering, hearingAs, hearingAt, hearing}
+use Rattle.picture.specs.Stepping.{steppingBack}
+use Rattle.picture.specs.Fresh.{freshening}
+use Rattle.picture.proofs.Meant.{not-type, names-run, type-by}
 use Rattle.history.specs.Standing.{Event, hear}
 use Rattle.history.specs.Demand3.{doing}
 use Rattle.history.proofs.Refused.{refused-keeps}
@@ -33,43 +32,6 @@ use Rattle.demands.specs.Demand1.{ofOutcome, Call, Pictures}
 use Rattle.demands.proofs.Orders.{answers-refuses, call-fault, call-done, answer-fault}
 use Rattle.demands.proofs.FrameOrders.{reader-order}
 
--- ---- FF enters a type, and no other command does
-abbrev enters-none : List ℕ → Reader → Bool
-enters-none d r = eqb (r .command) typeCommand || eqb (typeEntered (r .reads d)) 0
-
-abbrev every : (Reader → Bool) → List Reader → Bool
-every f [] = true
-every f (r ∷ rs) = f r && every f rs
-
-abbrev command-in : List ℕ → List Reader → ℕ → Command
-command-in d rs c = firstFor (λ (r : Reader). r .command) (λ (r : Reader). r .reads d) unlisted rs c
-
-others-in : (d : List ℕ) (c : ℕ) (rs : List Reader) → every (enters-none d) rs ≡ true → eqb c typeCommand ≡ false → eqb (typeEntered (command-in d rs c)) 0 ≡ true
-unfolding typeEntered
-others-in d c [] h n = refl
-others-in d c (r ∷ rs) h n =
-    let g = and-both (enters-none d r) (every (enters-none d) rs) h in
-    go (eqb c (r .command)) (eqb-true c (r .command)) (g .0) (others-in d c rs (g .1) n)
-  where
-    go : (b : Bool) → (b ≡ true → c ≡ r .command) → enters-none d r ≡ true → eqb (typeEntered (command-in d rs c)) 0 ≡ true
-        → eqb (typeEntered (cond b (r .reads d) (command-in d rs c))) 0 ≡ true
-    go true q t rest = or-right (eqb (r .command) typeCommand) _ t (ap (λ (k : ℕ). eqb k typeCommand) (sym (q refl)) ∙ n)
-    go false q t rest = rest
-
-others-enter-none : (s : List ℕ) → eqb (byte 1 s) typeCommand ≡ false → eqb (typeEntered (commandOf s)) 0 ≡ true
-unfolding typeEntered
-others-enter-none s n = others-in (bytesOf (dataOf s)) (byte 1 s) readers refl n
-
-type-enters : (s : List ℕ) → eqb (byte 1 s) typeCommand ≡ true → eqb (typeEntered (commandOf s)) 0 ≡ false
-unfolding typeEntered
-type-enters s q =
-    ap (λ (c : ℕ). eqb (typeEntered (command-in (bytesOf (dataOf s)) readers c)) 0) (eqb-true (byte 1 s) typeCommand q) ∙ go (eqb (byte 2 s) vmb8ir)
-  where
-    go : (b : Bool) → eqb (typeEntered (cond b (TypeIr (byte 3 s) (byte 4 s) (byte 5 s) (byte 6 s) (byte 7 s)) (TypeBl (byte 3 s) (byte 4 s) (byte 5 s)))) 0 ≡ false
-    go true = refl
-    go false = refl
-
--- ---- hearing, stepping back, a fresh picture
 refused-is : (o : Outcome) (n : ℕ) → ofOutcome o ≡ refuses n → o ≡ outcome.Refused n
 refused-is outcome.Done n e = answers-refuses e
 refused-is (outcome.Refused m) n e = cc
@@ -83,7 +45,7 @@ unfolding entering
 entering-order b s a kind t r = go (ltb s room) (ltb (modulesOf b) room)
   where
     go : (c d : Bool)
-        → ofOutcome (cond c (done (cond (eqb kind t) (toldBytes b s r) (exchangedBytes b s a t r))) (cond d (done (enteredBytes b a t r)) (refusing noRoom b)) .outcome)
+        → ofOutcome (cond c (done (cond (eqb kind t) (naming b s r) (exchangedBytes b s a t r))) (cond d (done (enteredBytes b a t r)) (refusing noRoom b)) .outcome)
         ≡ cond (c || d) answers (refuses noRoom)
     go true d = refl
     go false true = refl
@@ -96,23 +58,37 @@ module _ (b : List ℕ) (identifier remote : ℕ) (s : List ℕ) where
   abbrev last : List Test
   last = roomTest b identifier ∷ []
 
+  abbrev kind : ℕ
+  kind = kindIn b slot
+
   -- what is heard, by what is read
   abbrev of : Reading → Verdict
-  of r = ofOutcome (hearingReading b slot (busAddress identifier) (kindIn b slot) r .outcome)
+  of r = ofOutcome (hearingAs b slot (busAddress identifier) kind (readAs kind r) .outcome)
 
-  heard-order : of (reading (kindIn b slot) identifier remote s) ≡ verdict (frameOrder last (kindIn b slot) identifier remote s)
-  unfolding hearingReading hearingMessage hearingCommand
-  heard-order =
-      reader-order of (λ n. refl) last (kindIn b slot) identifier remote s refl
-      (λ q. rw (type-enters s q)
-      (entering-order b slot (busAddress identifier) (kindIn b slot) (typeEntered (commandOf s)) (runOf (kindIn b slot) (commandOf s))))
-      (λ q. rw (others-enter-none s q))
+  -- FF, in either shape, enters a type, and every other command names a run
+  type-order : eqb (byte 1 s) typeCommand ≡ true → ofOutcome (hearingAs b slot (busAddress identifier) kind (meaningOf kind (commandOf s)) .outcome) ≡ verdict last
+  unfolding hearingAs meaningOf
+  type-order q = rw (type-by s refl (eqb-true (byte 1 s) typeCommand q)) (go (eqb (rowFor (byte 2 s) typeCommand .0) longType))
+    where
+      go : (long : Bool)
+          → ofOutcome (hearingAs b slot (busAddress identifier) kind (meaningOf kind (cond long (TypeLong (byte 2 s) (byte 3 s) (byte 4 s) (byte 5 s) (byte 6 s) (byte 7 s)) (TypeShort (byte 2 s) (byte 3 s) (byte 4 s) (byte 5 s)))) .outcome)
+          ≡ verdict last
+      go true = entering-order b slot (busAddress identifier) kind (byte 2 s) _
+      go false = entering-order b slot (busAddress identifier) kind (byte 2 s) _
+
+  other-order : eqb (byte 1 s) typeCommand ≡ false → ofOutcome (hearingAs b slot (busAddress identifier) kind (meaningOf kind (commandOf s)) .outcome) ≡ answers
+  unfolding hearingAs
+  other-order q = rw (names-run kind s (not-type (byte 1 s) (eqb-false (byte 1 s) typeCommand q)))
+
+  heard-order : of (reading kind identifier remote s) ≡ verdict (frameOrder last kind identifier remote s)
+  unfolding hearingAs readAs meant
+  heard-order = reader-order of (λ n. refl) last kind identifier remote s refl type-order other-order
 
   hears : Call (hearingOrder b identifier remote s) b (hearing b identifier remote s)
   unfolding hearing hearingAt doing
   hears =
       event-keeps (hear (record { identifier = identifier; remote = remote; bytes = s })) b (hearingOrder b identifier remote s)
-      (answer-fault (λ (r : Result). ofOutcome (r .outcome)) tooShort (frameOrder last (kindIn b slot) identifier remote s)
+      (answer-fault (λ (r : Result). ofOutcome (r .outcome)) tooShort (frameOrder last kind identifier remote s)
       (hearingAt b slot identifier remote s) (refusing tooShort b) heard-order refl (short b))
 
 backs : (b : List ℕ) → Call (backOrder b) b (steppingBack b)

@@ -2,93 +2,62 @@
 use Prim.Native.Nat.{ℕ, _*_}
 use mathlib.Core.Path.{_≡_, refl}
 use mathlib.Core.List.{List, [], _∷_}
-use mathlib.Core.Bool.{cond}
 use lib.Dec.{eqb, ltb, leb}
 use lib.ListN.{length}
 use Rattle.laws.specs.Refusals.{typeNotKnown, noSuchPlace, tooShort, notWhole}
-use Rattle.picture.specs.declared.Answer.{Answer}
-use Rattle.picture.specs.declared.Answer.the-variants.{Value, Refused}
-use Rattle.picture.specs.Limits.{room, addresses}
-use Rattle.picture.specs.Places.{places, nameLength, Asked, placeAsked, hasName}
-use Rattle.picture.specs.Result.{Result, refusing}
-use Rattle.picture.specs.Bytes.{short, kindIn}
-use Rattle.picture.specs.Questions.{slotAsked, keptAnswer, typeAnswer, placeIn, numberIn, numberAnswer, filledTo, filling, listedIf, listing, characterHeard, heardIn, nameHeard, sumTo, nameFrom, nameIn, nameWhole, cellValue, rowByte, memoryIn, memoryRow, memoryBytesIn, memoryBytes}
-use Rattle.demands.specs.Order.{Test, _or_, verdict, pictureTest, moduleOrder, rowTest, listedOrder, numberOrder, nameOrder, wholeOrder, cellsAsked, memoryOrder, memoryBytesOrder}
-use Rattle.demands.specs.Demand1.{ofAnswer, Call, Questions}
-use Rattle.demands.proofs.Orders.{call-test, call-fault, call-done, answer-test, answer-fault}
+use Rattle.frame.specs.Types.{extentOf}
+use Rattle.places.specs.declared.answers.Answer.the-variants.{Refused}
+use Rattle.places.specs.Limits.{room, addresses}
+use Rattle.places.specs.Places.{places, nameLength, yearPlace, weekPlace, cellAsked, ledAsked, blindAsked, hasName, nameRow, cellRow}
+use Rattle.places.specs.Layout.{placeAt}
+use Rattle.places.specs.Head.{short, kindIn}
+use Rattle.questions.specs.Question.{Question, type-of, build-year, build-week, cell, led, blind, name-heard, whole-name, memory-row, memory-bytes}
+use Rattle.questions.specs.Fills.{filledTo, filling, valueAt, rowNumber, lowFirst, numbersFill, bytesFill}
+use Rattle.questions.specs.Replies.{slotAsked, placeReply, characterHeard, sumTo, heardReply, nameReply, replyAs, replyIn, reply, keptAnswer, listedIf, listing}
+use Rattle.demands.specs.Order.{verdict, pictureTest, rowTest, listedOrder, placeTest, questionTests, questionOrder}
+use Rattle.demands.specs.Demand1.{ofAnswer, Replied, Questions}
+use Rattle.demands.proofs.Orders.{reply-test, reply-fault, reply-done, answer-fault}
 
 -- a row of n numbers
-fills : (f : ℕ → ℕ) (n : ℕ) (out : List ℕ) → Call (rowTest n out ∷ []) out (filling f n out)
+fills : (f : ℕ → ℕ) (n : ℕ) (out : List ℕ) → Replied (rowTest n out ∷ []) out (filling f n out)
 unfolding filling
-fills f n out = call-test out tooShort [] _ (leb n (length out)) (call-done out (filledTo f out n))
+fills f n out = reply-test out tooShort [] _ (leb n (length out)) (reply-done out 0 (filledTo f out n))
 
--- of a listed module, where what else is asked goes by its own tests
-module _ (b : List ℕ) (a : ℕ) (later : List Test) where
-  asks-number : (x : Answer) → ofAnswer x ≡ verdict later
-      → ofAnswer (cond (short b) (Refused tooShort) (cond (ltb (slotAsked b a) room) x (Refused typeNotKnown))) ≡ verdict (moduleOrder b a later)
-  asks-number x e =
-      answer-fault ofAnswer tooShort (ltb (slotAsked b a) room or typeNotKnown ∷ later) _ (Refused tooShort)
-      (answer-test ofAnswer typeNotKnown later x (Refused typeNotKnown) e refl (ltb (slotAsked b a) room)) refl (short b)
+kept-order : (b : List ℕ) → ofAnswer (keptAnswer b) ≡ verdict (pictureTest b ∷ [])
+unfolding keptAnswer
+kept-order b = answer-fault ofAnswer tooShort [] _ (Refused tooShort) refl refl (short b)
 
-  asks-row : (out : List ℕ) (r : Result) → Call later out r
-      → Call (moduleOrder b a later) out (cond (short b) (refusing tooShort out) (cond (ltb (slotAsked b a) room) r (refusing typeNotKnown out)))
-  asks-row out r d = call-fault out tooShort _ _ (short b) (call-test out typeNotKnown later r (ltb (slotAsked b a) room) d)
+listed-order : (b out : List ℕ) → Replied (listedOrder b out) out (listing b out)
+unfolding listing
+listed-order b out = reply-fault out tooShort _ _ (short b) (fills (listedIf b) addresses out)
 
-module _ (b : List ℕ) where
-  kept-order : ofAnswer (keptAnswer b) ≡ verdict (pictureTest b ∷ [])
-  unfolding keptAnswer
-  kept-order = answer-fault ofAnswer tooShort [] _ (Refused tooShort) refl refl (short b)
+-- a question on the module in slot s, whose type is kind
+module _ (b : List ℕ) (s kind : ℕ) (out : List ℕ) where
+  places-order : (p : ℕ) → Replied (placeTest p ∷ []) out (placeReply b s p out)
+  unfolding placeReply
+  places-order p = reply-test out noSuchPlace [] _ (ltb p places) (reply-done out (valueAt b (placeAt s p)) out)
 
-  listed-order : (out : List ℕ) → Call (listedOrder b out) out (listing b out)
-  unfolding listing
-  listed-order out = call-fault out tooShort _ _ (short b) (fills (listedIf b) addresses out)
+  asked-order : (q : Question) → Replied (questionTests b s kind q out) out (replyAs b s kind q out)
+  unfolding replyAs heardReply nameReply numbersFill bytesFill
+  asked-order type-of = reply-done out kind out
+  asked-order build-year = places-order yearPlace
+  asked-order build-week = places-order weekPlace
+  asked-order (cell location) = places-order (cellAsked kind location)
+  asked-order (led n) = places-order (ledAsked kind n)
+  asked-order (blind n) = places-order (blindAsked kind n)
+  asked-order (name-heard n) = reply-test out noSuchPlace _ _ (hasName kind n) (fills (characterHeard b s (nameRow kind n)) nameLength out)
+  asked-order (whole-name n) =
+      reply-test out noSuchPlace _ _ (hasName kind n)
+      (reply-test out tooShort _ _ (leb nameLength (length out))
+      (reply-test out notWhole [] _ (eqb (sumTo (characterHeard b s (nameRow kind n)) nameLength) nameLength) (reply-done out 0 _)))
+  asked-order memory-row = fills (rowNumber b s (cellRow kind)) (extentOf kind .cells) out
+  asked-order memory-bytes = fills (lowFirst (rowNumber b s (cellRow kind))) (2 * extentOf kind .cells) out
 
-module _ (b : List ℕ) (a : ℕ) where
-  abbrev slot : ℕ
-  slot = slotAsked b a
-
-  type-order : ofAnswer (typeAnswer b a) ≡ verdict (moduleOrder b a [])
-  unfolding typeAnswer
-  type-order = asks-number b a [] (Value (kindIn b slot)) refl
-
-  number-order : (q : Asked) → ofAnswer (numberAnswer b a q) ≡ verdict (numberOrder b a q)
-  unfolding numberAnswer numberIn placeIn
-  number-order q =
-      asks-number b a (ltb (placeAsked (kindIn b slot) q) places or noSuchPlace ∷ []) (placeIn b slot (placeAsked (kindIn b slot) q))
-      (answer-test ofAnswer noSuchPlace [] _ (Refused noSuchPlace) refl refl (ltb (placeAsked (kindIn b slot) q) places))
-
-  memory-order : (out : List ℕ) → Call (memoryOrder b a out) out (memoryRow b a out)
-  unfolding memoryRow memoryIn
-  memory-order out = asks-row b a _ out _ (fills (cellValue b slot) (cellsAsked b a) out)
-
-  bytes-order : (out : List ℕ) → Call (memoryBytesOrder b a out) out (memoryBytes b a out)
-  unfolding memoryBytes memoryBytesIn
-  bytes-order out = asks-row b a _ out _ (fills (rowByte (cellValue b slot)) (2 * cellsAsked b a) out)
-
-  module _ (name : ℕ) (out : List ℕ) where
-    heard-order : Call (nameOrder b a name out []) out (nameHeard b a name out)
-    unfolding nameHeard heardIn
-    heard-order =
-        asks-row b a _ out _
-        (call-test out noSuchPlace _ _ (hasName (kindIn b slot) name) (fills (characterHeard b slot name) nameLength out))
-
-    whole-order : Call (wholeOrder b a name out) out (nameWhole b a name out)
-    unfolding nameWhole nameIn nameFrom
-    whole-order =
-        asks-row b a _ out _
-        (call-test out noSuchPlace _ _ (hasName (kindIn b slot) name)
-        (call-test out tooShort _ _ (leb nameLength (length out))
-        (call-test out notWhole [] _ (eqb (sumTo (characterHeard b slot name) nameLength) nameLength) (call-done out _))))
+each-order : (b : List ℕ) (a : ℕ) (q : Question) (out : List ℕ) → Replied (questionOrder b a q out) out (reply b a q out)
+unfolding reply replyIn
+each-order b a q out =
+    let s = slotAsked b a in
+    reply-fault out tooShort _ _ (short b) (reply-test out typeNotKnown _ _ (ltb s room) (asked-order b s (kindIn b s) out q))
 
 pub questions : Questions
-questions =
-    record {
-      kept = kept-order;
-      type-of = type-order;
-      number = number-order;
-      listed = listed-order;
-      name-heard = heard-order;
-      name = whole-order;
-      memory-row = memory-order;
-      memory-bytes = bytes-order;
-    }
+questions = record { kept = kept-order; listed = listed-order; each = each-order }

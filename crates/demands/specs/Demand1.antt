@@ -14,14 +14,16 @@ use Rattle.frame.specs.declared.reader.Reading.{Reading}
 use Rattle.frame.specs.declared.reader.Reading.the-variants as reader
 use Rattle.frame.specs.declared.writer.Writing.{Writing}
 use Rattle.frame.specs.declared.writer.Writing.the-variants as writer
-use Rattle.picture.specs.declared.Outcome.{Outcome}
-use Rattle.picture.specs.declared.Outcome.the-variants as outcome
-use Rattle.picture.specs.declared.Answer.{Answer}
-use Rattle.picture.specs.declared.Answer.the-variants as answer
-use Rattle.picture.specs.Places.{Asked}
-use Rattle.picture.specs.Result.{Result}
-use Rattle.picture.specs.Bytes.{freshening, hearing, steppingBack}
-use Rattle.picture.specs.Questions.{keptAnswer, typeAnswer, numberAnswer, listing, nameHeard, nameWhole, memoryRow, memoryBytes}
+use Rattle.places.specs.declared.answers.Outcome.{Outcome}
+use Rattle.places.specs.declared.answers.Outcome.the-variants as outcome
+use Rattle.places.specs.declared.answers.Answer.{Answer}
+use Rattle.places.specs.declared.answers.Answer.the-variants as answer
+use Rattle.places.specs.Result.{Result}
+use Rattle.picture.specs.Hearing.{hearing}
+use Rattle.picture.specs.Stepping.{steppingBack}
+use Rattle.picture.specs.Fresh.{freshening}
+use Rattle.questions.specs.Question.{Question, Reply}
+use Rattle.questions.specs.Replies.{keptAnswer, listing, reply}
 use Rattle.recording.specs.declared.writes.Put.{Put}
 use Rattle.recording.specs.declared.writes.Put.the-variants as put
 use Rattle.recording.specs.Write.{recordBytes, putAnswer, putBytes}
@@ -30,7 +32,7 @@ use Rattle.velbus.specs.Words.{values, refusedWord, outcomeWord, answerWord}
 use Rattle.velbus.specs.Recordings.{putWord}
 use Rattle.velbus.specs.Layout.{messageSize}
 use Rattle.velbus.specs.Frames.{frameSize, readWord, readInto, writeWord, writeInto}
-use Rattle.demands.specs.Order.{Test, Verdict, answers, refuses, verdict, readerOrder, writerOrder, pictureTest, hearingOrder, backOrder, moduleOrder, listedOrder, numberOrder, nameOrder, wholeOrder, memoryOrder, memoryBytesOrder, putOrder, readOrder, writeOrder}
+use Rattle.demands.specs.Order.{Test, Verdict, answers, refuses, verdict, readerOrder, writerOrder, pictureTest, hearingOrder, backOrder, listedOrder, questionOrder, putOrder, readOrder, writeOrder}
 
 -- ---- what each kind of answer comes to
 abbrev pub ofReading : Reading → Verdict
@@ -76,6 +78,9 @@ Verdicts tests before given after = Decided (λ v. v) tests before given after
 abbrev pub Call : List Test → List ℕ → Result → Type 0
 Call tests before r = Verdicts tests before (ofOutcome (r .outcome)) (r .buffer)
 
+abbrev pub Replied : List Test → List ℕ → Reply → Type 0
+Replied tests before r = Verdicts tests before (ofAnswer (r .answer)) (r .buffer)
+
 abbrev pub Word : ℕ → List Test → List ℕ → ℕ → List ℕ → Type 0
 Word value tests before word after = Decided (λ v. wordOf v value) tests before word after
 
@@ -94,13 +99,8 @@ pub record Pictures : Type 0 where
 -- questions on any bytes, of any address
 pub record Questions : Type 0 where
   pub kept : (b : List ℕ) → ofAnswer (keptAnswer b) ≡ verdict (pictureTest b ∷ [])
-  pub type-of : (b : List ℕ) (a : ℕ) → ofAnswer (typeAnswer b a) ≡ verdict (moduleOrder b a [])
-  pub number : (b : List ℕ) (a : ℕ) (q : Asked) → ofAnswer (numberAnswer b a q) ≡ verdict (numberOrder b a q)
-  pub listed : (b out : List ℕ) → Call (listedOrder b out) out (listing b out)
-  pub name-heard : (b : List ℕ) (a name : ℕ) (out : List ℕ) → Call (nameOrder b a name out []) out (nameHeard b a name out)
-  pub name : (b : List ℕ) (a name : ℕ) (out : List ℕ) → Call (wholeOrder b a name out) out (nameWhole b a name out)
-  pub memory-row : (b : List ℕ) (a : ℕ) (out : List ℕ) → Call (memoryOrder b a out) out (memoryRow b a out)
-  pub memory-bytes : (b : List ℕ) (a : ℕ) (out : List ℕ) → Call (memoryBytesOrder b a out) out (memoryBytes b a out)
+  pub listed : (b out : List ℕ) → Replied (listedOrder b out) out (listing b out)
+  pub each : (b : List ℕ) (a : ℕ) (q : Question) (out : List ℕ) → Replied (questionOrder b a q out) out (reply b a q out)
 
 -- recordings: a record put; and one read, where the first fault decides: 15 at the input's end, or 16 at its byte, whatever follows
 pub record Recordings : Type 0 where
@@ -114,9 +114,9 @@ pub record Recordings : Type 0 where
 pub record Words : Type 0 where
   -- no value is a refusal
   pub apart : (value n : ℕ) → value < values → 0 < n → value ≢ refusedWord n
-  -- velbus_fresh, hear, step_back, listed, name_heard, name, memory_row
+  -- velbus_fresh, hear, step_back
   pub of-outcome : (o : Outcome) → outcomeWord o ≡ wordOf (ofOutcome o) 0
-  -- velbus_kept, type, build_year, build_week, cell, led, blind
+  -- velbus_kept, listed and every question on an address
   pub of-answer : (a : Answer) → answerWord a ≡ wordOf (ofAnswer a) (valueOf a)
   pub put-record : (b : List ℕ) (at gap identifier remote : ℕ) (ds : List ℕ)
       → Word (length (recordBytes gap identifier remote ds) % values) (putOrder b at gap identifier remote ds) b

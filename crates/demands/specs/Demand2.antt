@@ -11,8 +11,8 @@ use Rattle.frame.specs.declared.messages.Message.{Message}
 use Rattle.frame.specs.declared.reader.Reading.the-variants.{Read}
 use Rattle.frame.specs.declared.writer.Frame.{Frame}
 use Rattle.frame.specs.declared.writer.Writing.the-variants.{Written}
-use Rattle.picture.specs.Limits.{addresses}
-use Rattle.picture.specs.Fitting.{RunsLie, RunsFit}
+use Rattle.places.specs.Limits.{addresses}
+use Rattle.places.specs.Fitting.{RunsLie, RunsFit}
 use Rattle.history.specs.Speaks.{SpeaksOf}
 use Rattle.history.specs.Effects.{Effects, HearsCommand, HearsEntry, HearsExchange}
 use Rattle.velbus.specs.Statements.{LaidIsHeld, ReadThenWrittenAgain}

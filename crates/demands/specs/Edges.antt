@@ -5,7 +5,7 @@ use mathlib.Core.List.{List, [], _∷_, map, reverse}
 use lib.ListN.{length, replicate}
 use Rattle.laws.specs.Refusals.{badIdentifier, badForm, badPriority, wrongPriority, badField, notWhole}
 use Rattle.frame.specs.Identifiers.{low, priorityOf, addressOf}
-use Rattle.frame.specs.Rows.{noType, vmb1bl, vmb8ir}
+use Rattle.frame.specs.Types.{noType, vmb1bl, vmb8ir}
 use Rattle.frame.specs.Reading.{reading}
 use Rattle.frame.specs.declared.identifiers.Address.{Address}
 use Rattle.frame.specs.declared.messages.Time.the-variants.{DipSwitch, Permanently, Seconds}
@@ -16,17 +16,16 @@ use Rattle.frame.specs.declared.messages.Command.the-variants.{BlockTold, NameA
 use Rattle.frame.specs.declared.messages.Message.the-variants.{TypeRequest, Tells}
 use Rattle.frame.specs.declared.reader.Reading.{Reading}
 use Rattle.frame.specs.declared.reader.Reading.the-variants.{Read, Refused}
-use Rattle.picture.specs.declared.Answer.{Answer}
-use Rattle.picture.specs.declared.Answer.the-variants.{Value}
-use Rattle.picture.specs.Layout.{size}
-use Rattle.picture.specs.Places.{Asked, cell, led, nameLength}
-use Rattle.picture.specs.Runs.{glowNumber}
-use Rattle.picture.specs.Result.{Result, refusing, done}
-use Rattle.picture.specs.Questions.{numberAnswer, nameWhole}
-use Rattle.history.specs.Standing.{Event, standing, typeOf, latest, unknown}
-use Rattle.history.specs.Asked.{numberOf, toldName}
+use Rattle.places.specs.declared.answers.Answer.{Answer}
+use Rattle.places.specs.declared.answers.Answer.the-variants.{Value}
+use Rattle.places.specs.Layout.{size}
+use Rattle.places.specs.Places.{nameLength}
+use Rattle.places.specs.Runs.{glowNumber}
+use Rattle.questions.specs.Question.{Question, cell, led, whole-name, Reply, filled, refusing}
+use Rattle.questions.specs.Replies.{reply}
+use Rattle.history.specs.Standing.{Event}
 use Rattle.history.specs.Demand3.{runBytes}
-use Rattle.history.specs.Cases.{bench, ir, toldAfter}
+use Rattle.history.specs.Cases.{example, ir, toldTo}
 use Rattle.history.specs.Cases.{low as heard}
 use Rattle.recording.specs.declared.numbers.Number.{Number}
 use Rattle.recording.specs.declared.numbers.Number.the-variants as numbers
@@ -41,7 +40,7 @@ pub data Shown : Type 0 where
   parts : ℕ → Address → Shown
   frame : Reading → Shown
   answers : List Answer → Shown
-  name : Result → Shown
+  name : Reply → Shown
   bytes : List ℕ → Shown
   number : Number → Shown
   entry : Entry → Shown
@@ -52,7 +51,7 @@ pub record Row : Type 0 where
 
 -- ---- the rows' kinds
 abbrev pub at : Address
-at = record { 0 = bench }
+at = record { 0 = example }
 
 -- an identifier is of this priority and address
 abbrev pub identifies : ℕ → ℕ → Address → Row
@@ -62,13 +61,13 @@ identifies i p a = record { given = parts (priorityOf i) (addressOf i); right = 
 abbrev pub reads : ℕ → ℕ → ℕ → List ℕ → Reading → Row
 reads kind i remote s r = record { given = frame (reading kind i remote s); right = frame r }
 
--- a command at the bench module, accepted with this message
+-- a command at the example module, accepted with this message
 abbrev pub accepts : ℕ → ℕ → List ℕ → Command → Row
 accepts kind i s m = reads kind i 0 s (Read at (Tells m))
 
 -- after these frames the questions are answered so
-abbrev pub asked : List Event → List Asked → List Answer → Row
-asked es qs xs = record { given = answers (map (toldAfter es) qs); right = answers xs }
+abbrev pub asked : List Event → List Question → List Answer → Row
+asked es qs xs = record { given = answers (map (λ (q : Question). toldTo es q [] .answer) qs); right = answers xs }
 
 -- after these frames the name of a channel is asked for, into sixteen zeros
 abbrev pub channel : ℕ
@@ -77,11 +76,8 @@ channel = 3
 abbrev pub zeros : List ℕ
 zeros = replicate nameLength 0
 
-abbrev pub nameAfter : List Event → List ℕ → Result
-nameAfter es out = toldName (typeOf (standing (reverse es)) bench) channel (latest (standing (reverse es)) bench) out
-
-abbrev pub named : List Event → Result → Row
-named es r = record { given = name (nameAfter es zeros); right = name r }
+abbrev pub named : List Event → Reply → Row
+named es r = record { given = name (toldTo es (whole-name channel) zeros); right = name r }
 
 -- a number's bytes, and the same bytes read
 abbrev pub written : ℕ → List ℕ → Row
@@ -95,12 +91,12 @@ abbrev pub begins : List ℕ → Entry → Row
 begins bs e = record { given = entry (readRecord bs 0); right = entry e }
 
 -- ---- what they speak of
--- the identifier of the bench module, of low and of high priority
-abbrev pub lowBench : ℕ
-lowBench = 1620
+-- the identifier of the example module, of low and of high priority
+abbrev pub lowExample : ℕ
+lowExample = 1620
 
-abbrev pub highBench : ℕ
-highBench = 84
+abbrev pub highExample : ℕ
+highExample = 84
 
 -- four cells told from a location
 abbrev pub block : ℕ → List ℕ
@@ -142,36 +138,36 @@ change = heard (0xFC ∷ 0x00 ∷ 0x05 ∷ 0x07 ∷ [])
 abbrev pub edges : List Row
 edges =
     -- 1620 is low, address H'2A'; 1621 and 2048: 1; 596: 3
-    identifies lowBench low at
+    identifies lowExample low at
     ∷ reads vmb8ir 1621 0 (0xCB ∷ []) (Refused badIdentifier)
     ∷ reads vmb8ir 2048 0 (0xCB ∷ []) (Refused badIdentifier)
     ∷ reads vmb8ir 596 0 (0xCB ∷ []) (Refused badPriority)
     -- remote, 1620, no data: type request; remote, 84: 8; remote with one byte: 2
-    ∷ reads noType lowBench 1 [] (Read at TypeRequest)
-    ∷ reads noType highBench 1 [] (Refused wrongPriority)
-    ∷ reads noType lowBench 1 (0x00 ∷ []) (Refused badForm)
+    ∷ reads noType lowExample 1 [] (Read at TypeRequest)
+    ∷ reads noType highExample 1 [] (Refused wrongPriority)
+    ∷ reads noType lowExample 1 (0x00 ∷ []) (Refused badForm)
     -- EF 03: refused 9 for H'0A', accepted for H'03'
-    ∷ reads vmb8ir lowBench 0 (0xEF ∷ 0x03 ∷ []) (Refused badField)
-    ∷ accepts vmb1bl lowBench (0xEF ∷ 0x03 ∷ []) (NameAsked 0x03)
+    ∷ reads vmb8ir lowExample 0 (0xEF ∷ 0x03 ∷ []) (Refused badField)
+    ∷ accepts vmb1bl lowExample (0xEF ∷ 0x03 ∷ []) (NameAsked 0x03)
     -- CC at H'00FC' accepted, H'00FD' refused 9 for H'0A'; H'007C' and H'007D' likewise for H'03'
-    ∷ accepts vmb8ir lowBench (block 0xFC) (blockTold 0xFC)
-    ∷ reads vmb8ir lowBench 0 (block 0xFD) (Refused badField)
-    ∷ accepts vmb1bl lowBench (block 0x7C) (blockTold 0x7C)
-    ∷ reads vmb1bl lowBench 0 (block 0x7D) (Refused badField)
+    ∷ accepts vmb8ir lowExample (block 0xFC) (blockTold 0xFC)
+    ∷ reads vmb8ir lowExample 0 (block 0xFD) (Refused badField)
+    ∷ accepts vmb1bl lowExample (block 0x7C) (blockTold 0x7C)
+    ∷ reads vmb1bl lowExample 0 (block 0x7D) (Refused badField)
     -- F4 01 01 00: LED 1 on, the rest off; F4 00 03 02: LED 1 slow, LED 2 very fast
     ∷ leds (0xF4 ∷ 0x01 ∷ 0x01 ∷ 0x00 ∷ []) (On ∷ Off ∷ Off ∷ Off ∷ Off ∷ Off ∷ Off ∷ Off ∷ [])
     ∷ leds (0xF4 ∷ 0x00 ∷ 0x03 ∷ 0x02 ∷ []) (Slow ∷ VeryFast ∷ Off ∷ Off ∷ Off ∷ Off ∷ Off ∷ Off ∷ [])
     -- 05 03 00 00 00: dip switch; 05 03 00 00 01: one second; 05 03 FF FF FF: permanently
-    ∷ accepts vmb1bl highBench (up 0x00 0x00 0x00) (BlindUp 0x03 DipSwitch)
-    ∷ accepts vmb1bl highBench (up 0x00 0x00 0x01) (BlindUp 0x03 (Seconds 1))
-    ∷ accepts vmb1bl highBench (up 0xFF 0xFF 0xFF) (BlindUp 0x03 Permanently)
+    ∷ accepts vmb1bl highExample (up 0x00 0x00 0x00) (BlindUp 0x03 DipSwitch)
+    ∷ accepts vmb1bl highExample (up 0x00 0x00 0x01) (BlindUp 0x03 (Seconds 1))
+    ∷ accepts vmb1bl highExample (up 0xFF 0xFF 0xFF) (BlindUp 0x03 Permanently)
     -- F2, F0, F1 for one channel: whole; F2 alone: 14; nothing heard: 14
-    ∷ named (ir ∷ part-three ∷ part-one ∷ part-two ∷ []) (done wholeName)
+    ∷ named (ir ∷ part-three ∷ part-one ∷ part-two ∷ []) (filled wholeName)
     ∷ named (ir ∷ part-three ∷ []) (refusing notWhole zeros)
     ∷ named (ir ∷ []) (refusing notWhole zeros)
     -- FE, then FC on one cell: unknown
     ∷ asked (ir ∷ told ∷ []) (cell 5 ∷ []) (Value 0x2A ∷ [])
-    ∷ asked (ir ∷ told ∷ change ∷ []) (cell 5 ∷ []) (Value (numberOf unknown) ∷ [])
+    ∷ asked (ir ∷ told ∷ change ∷ []) (cell 5 ∷ []) (Value 256 ∷ [])
     -- 3240 is A8 19; 127 is 7F; 128 is 80 01; 80 00: 16
     ∷ written 3240 (0xA8 ∷ 0x19 ∷ [])
     ∷ readAs (0xA8 ∷ 0x19 ∷ []) 3240
@@ -187,9 +183,6 @@ abbrev pub EdgesHold : Type 0
 EdgesHold = map (λ (r : Row). r .given) edges ≡ map (λ (r : Row). r .right) edges
 
 -- and what the frames tell there is what the picture's bytes answer, from any fresh picture
-pub record EdgesShown (b : List ℕ) (es : List Event) : Type 0 where
-  pub numbers-shown : (q : Asked) → numberAnswer (runBytes b (reverse es)) bench q ≡ toldAfter es q
-  pub names-shown : (out : List ℕ) → nameWhole (runBytes b (reverse es)) bench channel out ≡ nameAfter es out
-
 abbrev pub EdgesOnBytes : Type 0
-EdgesOnBytes = (b : List ℕ) → size ≤ length b → (es : List Event) → EdgesShown b es
+EdgesOnBytes =
+    (b : List ℕ) → size ≤ length b → (es : List Event) (q : Question) (out : List ℕ) → reply (runBytes b (reverse es)) example q out ≡ toldTo es q out

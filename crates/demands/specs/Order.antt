@@ -7,18 +7,19 @@ use lib.ListN.{length}
 use Rattle.laws.specs.Refusals.{badIdentifier, badForm, badPriority, badType, typeNotKnown, notListed, wrongLength, wrongPriority, badField, noRoom, nothingKept, noSuchPlace, tooShort, notWhole, badNumber}
 use Rattle.laws.specs.Tests.{among}
 use Rattle.frame.specs.Identifiers.{low, priorities, priorityOf, plainIdentifier, wellFormed}
-use Rattle.frame.specs.Rows.{noType, moduleTypes, handedTypes, rowFor, isListed}
+use Rattle.frame.specs.Types.{noType, moduleTypes, handedTypes, rowFor, isListed, extentOf}
 use Rattle.frame.specs.Bytes.{byte}
 use Rattle.frame.specs.Messages.{typeCommand, encode}
 use Rattle.frame.specs.Fields.{fault}
 use Rattle.frame.specs.declared.messages.Command.{Command}
 use Rattle.frame.specs.declared.messages.Message.{Message}
 use Rattle.frame.specs.declared.messages.Message.the-variants.{TypeRequest, Tells}
-use Rattle.picture.specs.Limits.{room, addresses, busAddress}
-use Rattle.picture.specs.Places.{places, nameLength, extentOf, Asked, placeAsked, hasName}
-use Rattle.picture.specs.Runs.{commandOf}
-use Rattle.picture.specs.Bytes.{short, modulesOf, keptOf, slotOf, kindIn}
-use Rattle.picture.specs.Questions.{slotAsked, characterHeard, sumTo}
+use Rattle.places.specs.Limits.{room, addresses, busAddress}
+use Rattle.places.specs.Places.{places, nameLength, yearPlace, weekPlace, cellAsked, ledAsked, blindAsked, hasName, nameRow}
+use Rattle.places.specs.Runs.{commandOf}
+use Rattle.places.specs.Head.{short, modulesOf, keptOf, slotOf, kindIn}
+use Rattle.questions.specs.Question.{Question, type-of, build-year, build-week, cell, led, blind, name-heard, whole-name, memory-row, memory-bytes}
+use Rattle.questions.specs.Replies.{slotAsked, characterHeard, sumTo}
 use Rattle.recording.specs.Write.{inRange, recordBytes}
 use Rattle.velbus.specs.declared.parts.Held.{Held}
 use Rattle.velbus.specs.declared.parts.Held.the-variants.{Holds, Nothing}
@@ -88,9 +89,10 @@ frameOrder last kind identifier remote s =
 abbrev pub readerOrder : ℕ → ℕ → ℕ → List ℕ → List Test
 readerOrder kind identifier remote s = frameOrder [] kind identifier remote s
 
--- the writer: FF has only 9 left to test, by the type inside it
+-- the writer: FF goes by the type inside it, which has a type frame of that length (4), and then 9
 abbrev pub typeWritten : Command → List Test
-typeWritten m = eqb (fault (byte 2 (encode m)) m) 0 or badField ∷ []
+typeWritten m =
+    eqb (length (encode m)) (rowFor (byte 2 (encode m)) typeCommand .0) or badType ∷ eqb (fault (byte 2 (encode m)) m) 0 or badField ∷ []
 
 -- any other command: 5, 6, 9
 abbrev pub otherWritten : ℕ → Command → List Test
@@ -131,14 +133,6 @@ abbrev pub backOrder : List ℕ → List Test
 backOrder b = pictureTest b ∷ not (eqb (keptOf b) 0) or nothingKept ∷ []
 
 -- ---- questions: 5, 12, 13, 14
--- the type that is known of the address asked
-abbrev pub kindAsked : List ℕ → ℕ → ℕ
-kindAsked b a = kindIn b (slotAsked b a)
-
--- of a listed module, after which comes what else is tested
-abbrev pub moduleOrder : List ℕ → ℕ → List Test → List Test
-moduleOrder b a later = pictureTest b ∷ ltb (slotAsked b a) room or typeNotKnown ∷ later
-
 -- the row of n numbers has room in the buffer
 abbrev pub rowTest : ℕ → List ℕ → Test
 rowTest n out = leb n (length out) or tooShort
@@ -147,29 +141,31 @@ rowTest n out = leb n (length out) or tooShort
 abbrev pub listedOrder : List ℕ → List ℕ → List Test
 listedOrder b out = pictureTest b ∷ rowTest addresses out ∷ []
 
--- a cell, LED, blind state, build year or build week
-abbrev pub numberOrder : List ℕ → ℕ → Asked → List Test
-numberOrder b a q = moduleOrder b a (ltb (placeAsked (kindAsked b a) q) places or noSuchPlace ∷ [])
+-- there is such a place; such a name
+abbrev pub placeTest : ℕ → Test
+placeTest p = ltb p places or noSuchPlace
 
--- a name, after which comes what else is tested
-abbrev pub nameOrder : List ℕ → ℕ → ℕ → List ℕ → List Test → List Test
-nameOrder b a name out later = moduleOrder b a (hasName (kindAsked b a) name or noSuchPlace ∷ rowTest nameLength out ∷ later)
+abbrev pub nameTest : ℕ → ℕ → Test
+nameTest kind name = hasName kind name or noSuchPlace
 
--- a whole name: every character is heard
-abbrev pub wholeOrder : List ℕ → ℕ → ℕ → List ℕ → List Test
-wholeOrder b a name out = nameOrder b a name out (eqb (sumTo (characterHeard b (slotAsked b a) name) nameLength) nameLength or notWhole ∷ [])
+-- what is tested of a question on the module in slot s, whose type is kind
+abbrev pub questionTests : List ℕ → ℕ → ℕ → Question → List ℕ → List Test
+questionTests b s kind type-of out = []
+questionTests b s kind build-year out = placeTest yearPlace ∷ []
+questionTests b s kind build-week out = placeTest weekPlace ∷ []
+questionTests b s kind (cell location) out = placeTest (cellAsked kind location) ∷ []
+questionTests b s kind (led n) out = placeTest (ledAsked kind n) ∷ []
+questionTests b s kind (blind n) out = placeTest (blindAsked kind n) ∷ []
+questionTests b s kind (name-heard n) out = nameTest kind n ∷ rowTest nameLength out ∷ []
+questionTests b s kind (whole-name n) out =
+    nameTest kind n ∷ rowTest nameLength out ∷ eqb (sumTo (characterHeard b s (nameRow kind n)) nameLength) nameLength or notWhole ∷ []
+questionTests b s kind memory-row out = rowTest (extentOf kind .cells) out ∷ []
+questionTests b s kind memory-bytes out = rowTest (2 * extentOf kind .cells) out ∷ []
 
--- how many cells the module has
-abbrev pub cellsAsked : List ℕ → ℕ → ℕ
-cellsAsked b a = extentOf (kindAsked b a) .cells
-
--- the memory row: a number for each cell
-abbrev pub memoryOrder : List ℕ → ℕ → List ℕ → List Test
-memoryOrder b a out = moduleOrder b a (rowTest (cellsAsked b a) out ∷ [])
-
--- as C has it: two bytes for each cell
-abbrev pub memoryBytesOrder : List ℕ → ℕ → List ℕ → List Test
-memoryBytesOrder b a out = moduleOrder b a (rowTest (2 * cellsAsked b a) out ∷ [])
+-- every question on an address: 5 comes first
+abbrev pub questionOrder : List ℕ → ℕ → Question → List ℕ → List Test
+questionOrder b a q out =
+    pictureTest b ∷ ltb (slotAsked b a) room or typeNotKnown ∷ questionTests b (slotAsked b a) (kindIn b (slotAsked b a)) q out
 
 -- ---- recordings
 -- a record put at a place: 16, then 13

@@ -1,7 +1,7 @@
 -- Read in this order.
 pub mod Identifiers
-pub mod Rows
 pub mod Bytes
+pub mod Types
 pub mod Messages
 pub mod Fields
 pub mod Reading

@@ -1,5 +1,5 @@
 -- The statements of specs/Effects.antt. Assumes nothing.
-use Prim.Native.Nat.{ℕ, zero, suc, min, _<_, _≤_}
+use Prim.Native.Nat.{ℕ, suc, pred, min, _≤_}
 use native.Mathlib.Omega.{arith}
 use mathlib.Core.Path.{_≡_, refl, sym, ap, _∙_, subst}
 use mathlib.Core.Bool.{false, cond}
@@ -7,16 +7,15 @@ use mathlib.Core.List.{List, _∷_}
 use mathlib.Core.Option.{Option, none, some}
 use lib.Dec.{eqb, ltb}
 use lib.ListN.{length}
-use borrow.Author.Tests.{eq-eqb, ne-eqb, lt-ltb, le-ltb}
+use borrow.Author.Tests.{ne-eqb, lt-ltb, le-ltb}
 use mathlib.Core.Logic.{_≢_}
 use Rattle.laws.specs.Refusals.{noRoom}
-use Rattle.frame.specs.Rows.{noType}
 use Rattle.frame.specs.declared.messages.Command.{Command}
-use Rattle.picture.specs.declared.Outcome.the-variants.{Done}
-use Rattle.picture.specs.Layout.{size}
-use Rattle.picture.specs.Runs.{Run, runOf, typeEntered}
-use Rattle.picture.specs.Limits.{room, depth}
-use Rattle.history.specs.Standing.{handed, entersAs, meant, read, sense, Frame, address, Meaning, refuses, names, enters, meaning, Known, typed, typeOf, gave, latest, more, listed, Judgement, refused, accepted, exchanged, judged, judgement, outcomeOf, Event, hear, back, stands, butLatest, struck, counted, standing, kept, answered}
+use Rattle.places.specs.declared.answers.Outcome.the-variants.{Done}
+use Rattle.places.specs.Layout.{size}
+use Rattle.places.specs.Runs.{Run, Meaning, refuses, names, enters, meaningOf, meant, readAs}
+use Rattle.places.specs.Limits.{room, depth}
+use Rattle.history.specs.Standing.{handed, sense, Frame, address, meaning, Known, typed, typeOf, gave, latest, more, listed, Judgement, refused, accepted, exchanged, judged, judgement, outcomeOf, Event, hear, back, stands, butLatest, struck, counted, standing, kept, answered}
 use Rattle.history.specs.Demand3.{doing, runBytes, Tells, Answers}
 use Rattle.history.specs.Effects.{Reads, HearsCommand, HearsEntry, HearsExchange, Alike, Own, Effect, Effects, SameAnswers, BackOver, Sixteenth, RoomAgain, RoomUsedAgain}
 use Rattle.history.proofs.Shows.{other-type, other-latest, here-type, here-latest}
@@ -24,15 +23,7 @@ use Rattle.history.proofs.Demand3.{demand-3}
 
 -- two pictures that tell the same of an address answer alike
 alike : (b c : List ℕ) (a : ℕ) (t : Option ℕ) (known : ℕ → Known) → Tells b a t known → Tells c a t known → Alike b c a
-alike b c a t known x y =
-    record {
-      type-of = x .type-of ∙ sym (y .type-of);
-      number = λ q. x .number q ∙ sym (y .number q);
-      heard = λ name out. x .heard name out ∙ sym (y .heard name out);
-      name-of = λ name out. x .name-of name out ∙ sym (y .name-of name out);
-      memory = λ out. x .memory out ∙ sym (y .memory out);
-      memory-bytes = λ out. x .memory-bytes out ∙ sym (y .memory-bytes out);
-    }
+alike b c a t known x y q out = x q out ∙ sym (y q out)
 
 -- what is told may be put otherwise
 retold : (b : List ℕ) (a : ℕ) {t u : Option ℕ} {known other : ℕ → Known} → t ≡ u → ((p : ℕ) → known p ≡ other p) → Tells b a t known → Tells b a u other
@@ -93,7 +84,7 @@ module _ (b : List ℕ) (whole : size ≤ length b) (h : List Event) (f : Frame)
   kept-some e = rw e (go (kept h))
     where
       go : (k : ℕ) → struck (min depth (suc k)) (f ∷ S) ≡ S
-      go k = let q : min depth (suc k) ≡ suc (min 15 k) = omega arith in rw q
+      go k = let q : min depth (suc k) ≡ suc (min (pred depth) k) = omega arith in rw q
 
   done-it : judgement S f ≡ accepted → outcomeOf (judgement S f) ≡ Done
   unfolding outcomeOf
@@ -120,28 +111,9 @@ pub back-over : BackOver
 back-over = back-answers
 
 -- ---- by what the reader gives
-abbrev meaningOf : Option ℕ → Command → Meaning
-meaningOf t m = sense t (entersAs (typeEntered m) (runOf (handed t) m))
-
-reads-means : (t : Option ℕ) (f : Frame) (m : Command) → Reads (handed t) f m → meaning t f ≡ meaningOf t m
-unfolding meaning read meant
+reads-means : (t : Option ℕ) (f : Frame) (m : Command) → Reads (handed t) f m → meaning t f ≡ sense t (meaningOf (handed t) m)
+unfolding meaning readAs meant
 reads-means t f m e = rw e
-
--- the same type, or no entry: the run is named
-named-by : (kind t : ℕ) (r : Run) → cond (eqb t 0) kind t ≡ kind → sense (some kind) (entersAs t r) ≡ names r
-unfolding sense entersAs
-named-by kind zero r e = refl
-named-by kind (suc t) r e = let q : suc t ≡ kind = rw (ne-eqb (suc t) 0 (λ p. omega arith)) at e in rw (eq-eqb kind (suc t) (sym q))
-
-entered-by : (t : ℕ) (r : Run) → 0 < t → sense none (entersAs t r) ≡ enters t r
-unfolding sense entersAs
-entered-by zero r h = absurd (omega arith)
-entered-by (suc t) r h = refl
-
-exchanged-by : (kind t : ℕ) (r : Run) → 0 < t → t ≢ kind → sense (some kind) (entersAs t r) ≡ enters t r
-unfolding sense entersAs
-exchanged-by kind zero r h d = absurd (omega arith)
-exchanged-by kind (suc t) r h d = rw (ne-eqb kind (suc t) (λ q. d (sym q)))
 
 module _ (b : List ℕ) (whole : size ≤ length b) (h : List Event) (f : Frame) (t : Option ℕ) (m : Meaning) (t-is : typeOf (standing h) (address f) ≡ t) (m-is : meaning t f ≡ m) where
   judged-as : judgement (standing h) f ≡ judged t (listed (standing h)) m
@@ -156,24 +128,26 @@ module _ (b : List ℕ) (whole : size ≤ length b) (h : List Event) (f : Frame)
 
 pub hears-command : HearsCommand
 unfolding judged outcomeOf
-hears-command b whole h f kind m t e same =
-    let q = reads-means (some kind) f m e ∙ named-by kind (typeEntered m) (runOf kind m) same in
-    let o = heard-own b whole h f (some kind) (names (runOf kind m)) t q refl in
+hears-command b whole h f kind m r t e named =
+    let o = heard-own b whole h f (some kind) (names r) t (reads-means (some kind) f m e ∙ named) refl in
     record { answer = o .0; tells = o .1 }
 
 pub hears-entry : HearsEntry
-unfolding judged outcomeOf
-hears-entry b whole h f m t e some-type free =
-    let q = reads-means none f m e ∙ entered-by (typeEntered m) (runOf noType m) some-type in
-    let o = heard-own b whole h f none (enters (typeEntered m) (runOf noType m)) t q (rw (lt-ltb (listed (standing h)) room free)) in
+unfolding judged outcomeOf sense
+hears-entry b whole h f m k r t e enter free =
+    let o = heard-own b whole h f none (enters k r) t (reads-means none f m e ∙ ap (sense none) enter) (rw (lt-ltb (listed (standing h)) room free)) in
     record { answer = o .0; tells = o .1 }
+
+exchanges : (kind k : ℕ) (r : Run) → k ≢ kind → sense (some kind) (enters k r) ≡ enters k r
+unfolding sense
+exchanges kind k r d = rw (ne-eqb kind k (λ q. d (sym q)))
 
 pub hears-exchange : HearsExchange
 unfolding judged outcomeOf kept counted
-hears-exchange b whole h f kind m t e some-type other =
-    let q = reads-means (some kind) f m e ∙ exchanged-by kind (typeEntered m) (runOf kind m) some-type other in
-    let o = heard-own b whole h f (some kind) (enters (typeEntered m) (runOf kind m)) t q refl in
-    (record { answer = o .0; tells = o .1 }, rw (judged-as b whole h f (some kind) (enters (typeEntered m) (runOf kind m)) t q))
+hears-exchange b whole h f kind m k r t e enter other =
+    let q = reads-means (some kind) f m e ∙ ap (sense (some kind)) enter ∙ exchanges kind k r other in
+    let o = heard-own b whole h f (some kind) (enters k r) t q refl in
+    (record { answer = o .0; tells = o .1 }, rw (judged-as b whole h f (some kind) (enters k r) t q))
 
 -- ---- the sixteenth and the seventeenth module
 module _ (b : List ℕ) (whole : size ≤ length b) (h : List Event) (f g : Frame) (k l : ℕ) (r q : Run) (s : Sixteenth (standing h) f g k l r q) where

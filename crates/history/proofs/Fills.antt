@@ -1,40 +1,31 @@
 -- A buffer filled from its beginning is the row of what was stored, over what lay there. Assumes nothing.
-use Prim.Native.Nat.{ℕ, zero, suc, _+_, _-_, _<_, _≤_}
+use Prim.Native.Nat.{ℕ, _+_, _-_, _<_, _≤_}
 use native.Mathlib.Omega.{arith}
+use native.Mathlib.Nat.{zero-add}
 use mathlib.Core.Path.{_≡_, refl, sym, ap, _∙_}
 use mathlib.Core.Bool.{Bool, true, false, cond}
-use mathlib.Core.Logic.{_≢_}
 use mathlib.Core.List.{List}
-use lib.Dec.{eqb, ltb, leb}
-use lib.ListN.{length, getD, set, drop, length-set, length-append, length-drop, List·getD-append}
-use lib.Seq.{ext-getD, getD-set-same, getD-set-other, getD-drop, getD-append-add}
-use borrow.Author.Tests.{eqb-true, eqb-false, ltb-true, ltb-false, leb-true}
+use lib.Dec.{ltb, leb}
+use lib.ListN.{length, getD, drop, length-append, length-drop, List·getD-append}
+use lib.Seq.{ext-getD, getD-drop, getD-append-add}
+use borrow.Author.Tests.{ltb-true, ltb-false, leb-true}
 use Rattle.laws.specs.Refusals.{tooShort}
 use Rattle.laws.specs.Tab.{tab}
 use Rattle.laws.proofs.Tab.{length-tab, getD-tab, tab-ext}
-use Rattle.picture.specs.Result.{refusing, done}
-use Rattle.history.specs.Asked.{over, filled}
-use Rattle.picture.specs.Questions.{filledTo, filling}
+use Rattle.questions.specs.Question.{filled, refusing}
+use Rattle.questions.specs.Fills.{filledTo, filling}
+use Rattle.history.specs.Asked.{over, overRow}
+use Rattle.history.proofs.Stores.{laid-within, laid-at, filled-lays}
 
 module _ (f : ℕ → ℕ) (out : List ℕ) where
   to-length : (n : ℕ) → length (filledTo f out n) ≡ length out
-  unfolding filledTo
-  to-length zero = refl
-  to-length (suc n) = length-set (filledTo f out n) n (f n) ∙ to-length n
+  to-length n = laid-within (filled-lays f out) n .long
 
   to-above : (n i : ℕ) → n ≤ i → getD (filledTo f out n) i 0 ≡ getD out i 0
-  unfolding filledTo
-  to-above zero i h = refl
-  to-above (suc n) i h = getD-set-other (filledTo f out n) n i (f n) 0 (omega arith) ∙ to-above n i (omega arith)
+  to-above n i h = laid-within (filled-lays f out) n .outside i (λ p q. omega arith)
 
   to-below : (n i : ℕ) → i < n → n ≤ length out → getD (filledTo f out n) i 0 ≡ f i
-  unfolding filledTo
-  to-below zero i h l = absurd (omega arith)
-  to-below (suc n) i h l = go (eqb i n) refl (λ k. to-below n i k (omega arith))
-    where
-      go : (c : Bool) → eqb i n ≡ c → (i < n → getD (filledTo f out n) i 0 ≡ f i) → getD (set (filledTo f out n) n (f n)) i 0 ≡ f i
-      go true e ih = rw (eqb-true i n e) (getD-set-same (filledTo f out n) n (f n) 0 (rw to-length (omega arith)))
-      go false e ih = let d : i ≢ n = eqb-false i n e in getD-set-other (filledTo f out n) n i (f n) 0 d ∙ ih (omega arith)
+  to-below n i h l = rw zero-add at (laid-at (filled-lays f out) n i h (omega arith))
 
   over-length : (n : ℕ) → n ≤ length out → length (over (tab n f) out) ≡ length out
   over-length n l = simp (length-append, length-drop, length-tab) (omega arith)
@@ -58,12 +49,12 @@ module _ (f : ℕ → ℕ) (out : List ℕ) where
       go i true e = let h = ltb-true i n e in to-below n i h l ∙ sym (over-below n i h)
       go i false e = let h = ltb-false i n e in to-above n i h ∙ sym (over-above n i h)
 
-pub filling-filled : (f g : ℕ → ℕ) (n : ℕ) (out : List ℕ) → ((i : ℕ) → i < n → f i ≡ g i) → filling f n out ≡ filled (tab n g) out
-unfolding filling filled
-filling-filled f g n out h =
+pub filling-over : (f g : ℕ → ℕ) (n : ℕ) (out : List ℕ) → ((i : ℕ) → i < n → f i ≡ g i) → filling f n out ≡ overRow (tab n g) out
+unfolding filling overRow
+filling-over f g n out h =
     go (leb n (length out)) refl
-    ∙ ap (λ (k : ℕ). cond (leb k (length out)) (done (over (tab n g) out)) (refusing tooShort out)) (sym (length-tab n g))
+    ∙ ap (λ (k : ℕ). cond (leb k (length out)) (filled (over (tab n g) out)) (refusing tooShort out)) (sym (length-tab n g))
   where
-    go : (c : Bool) → leb n (length out) ≡ c → cond c (done (filledTo f out n)) (refusing tooShort out) ≡ cond c (done (over (tab n g) out)) (refusing tooShort out)
-    go true e = ap done (filled-over f out n (leb-true n (length out) e) ∙ ap (λ (row : List ℕ). over row out) (tab-ext n f g h))
+    go : (c : Bool) → leb n (length out) ≡ c → cond c (filled (filledTo f out n)) (refusing tooShort out) ≡ cond c (filled (over (tab n g) out)) (refusing tooShort out)
+    go true e = ap filled (filled-over f out n (leb-true n (length out) e) ∙ ap (λ (row : List ℕ). over row out) (tab-ext n f g h))
     go false e = refl

@@ -11,10 +11,10 @@ use borrow.Author.Tests.{eqb-true, ltb-true, lt-ltb, eq-eqb}
 use Rattle.laws.specs.Tab.{tab}
 use Rattle.laws.proofs.Tab.{length-tab, getD-tab}
 use Rattle.laws.proofs.Testing.{and-both}
-use Rattle.frame.specs.Rows.{noType}
-use Rattle.picture.specs.Layout.{slotAt, recordAt, kindAt}
-use Rattle.picture.specs.Limits.{room}
-use Rattle.picture.specs.Bytes.{modulesOf, noSlot, believed, slotOf, kindIn}
+use Rattle.frame.specs.Types.{noType}
+use Rattle.places.specs.Layout.{slotAt, recordAt, kindAt}
+use Rattle.places.specs.Limits.{room}
+use Rattle.places.specs.Head.{modulesOf, noSlot, believed, slotOf, kindIn}
 use Rattle.history.specs.Machine.{Module, nobody, find, slot}
 use Rattle.history.specs.Refinement.{moduleAt, stateOf, Good}
 use Rattle.history.proofs.Modules.{none-some, find-slot, slot-lt, find-address}
@@ -48,7 +48,7 @@ module _ (b : List ℕ) where
   pub count-is : length (stateOf b .modules) ≡ modulesOf b
   count-is = rw modules-are (length-tab (modulesOf b) (moduleAt b))
 
-  pub in-slot : (s : ℕ) → s < modulesOf b → getD (stateOf b .modules) s nobody ≡ moduleAt b s
+  in-slot : (s : ℕ) → s < modulesOf b → getD (stateOf b .modules) s nobody ≡ moduleAt b s
   in-slot s h = rw modules-are (getD-tab (modulesOf b) (moduleAt b) s nobody h)
 
   -- where an address is unlisted, no record below the number of modules has it

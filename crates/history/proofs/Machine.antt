@@ -1,23 +1,28 @@
 -- Demand 3 of the machine, as specs/Demand3.antt states it. The invariant `Ready log ms S`: the modules show what the standing frames tell, and undoing the log's
 -- latest entry gives modules that are ready, with the rest of the log, for the standing frames but the latest. Assumes nothing.
-use Prim.Native.Nat.{ℕ, zero, suc, pred, min, _<_}
+use Prim.Native.Nat.{ℕ, zero, suc, pred, min, _<_, _≤_}
+use native.Mathlib.Omega.{arith}
 use mathlib.Core.Path.{_≡_, refl, sym, ap, _∙_}
 use mathlib.Core.Bool.{Bool, true, false, cond}
 use mathlib.Core.List.{List, [], _∷_, _++_}
 use mathlib.Core.Option.{Option, none, some}
-use lib.Dec.{ltb}
+use lib.Dec.{eqb, ltb}
 use lib.ListN.{length, getD, set, take, length-take}
 use lib.Seq.{set-set, set-getD, getD-set-same}
 use Rattle.laws.specs.Refusals.{noRoom}
-use Rattle.picture.specs.Places.{places}
-use Rattle.picture.specs.Runs.{Run, sayings}
-use Rattle.picture.specs.Limits.{room, depth}
-use Rattle.history.specs.Standing.{Frame, address, Meaning, refuses, names, enters, meaning, typeOf, unknown, latest, listed, Judgement, refused, accepted, judged, judgement, Event, hear, back, stands, butLatest, struck, counted, standing, kept, granted, answered}
-use Rattle.history.specs.Machine.{Module, Undo, same, entered, wrote, State, Step, find, slot, olds, told-by, restored, new, nobody, undo, logged, kept-as, hears, backs, step, run}
+use Rattle.frame.specs.Reading.{reading}
+use Rattle.places.specs.Limits.{room, depth, mostPlaces}
+use Rattle.places.specs.Places.{places}
+use Rattle.places.specs.Runs.{Run, Saying, Meaning, refuses, names, enters, readAs}
+use Rattle.places.specs.Fitting.{FitsAs}
+use Rattle.places.proofs.Fitting.{runs-fit}
+use Rattle.history.specs.Standing.{Frame, address, handed, sense, meaning, typeOf, latest, listed, Judgement, refused, accepted, judged, judgement, Event, hear, back, stands, butLatest, struck, counted, standing, kept, granted, answered}
+use Rattle.history.specs.Machine.{Module, Undo, same, entered, wrote, State, Step, find, slot, olds, told-by, restored, new, nobody, undo, logged, kept-as, told-in, hears, backs, step, run}
+use Rattle.history.specs.Refinement.{Found, AllFound, Sound}
 use Rattle.history.specs.Demand3.{MachineAgrees}
 use Rattle.history.proofs.Rows.{restore-write}
 use Rattle.history.proofs.Modules.{none-some, find-slot, slot-lt, butLast-append}
-use Rattle.history.proofs.Shows.{At, Shows, kind-at, shows-same, shows-told, shows-new, shows-exchanged}
+use Rattle.history.proofs.Shows.{At, Shows, kind-at, shows-nobody, shows-nothing, shows-told, shows-new, shows-exchanged}
 
 abbrev Ready : List Undo → List Module → List Frame → Type 0
 Ready [] ms S = Shows ms S
@@ -38,16 +43,33 @@ ready-more : (us : List Undo) (ms ms′ : List Module) (f : Frame) (S : List Fra
 unfolding butLatest
 ready-more us ms ms′ f S u e s h = ready-take depth (u ∷ us) ms′ (f ∷ S) (s, rw e h)
 
-restored-told : (r : Run) (m : Module) → restored (r .start) (olds (m .places) (r .start) (sayings r)) (told-by r m) ≡ m
+restored-told : (r : Run) (m : Module) → length (r .says) ≤ mostPlaces → restored (r .start) (olds (m .places) (r .start)) (told-by r m) ≡ m
 unfolding restored told-by
-restored-told r m = rw restore-write
+restored-told r m l = rw (restore-write (m .places) (r .start) (r .says) mostPlaces l)
 
-undo-wrote : (ms : List Module) (a : ℕ) (r : Run) (m : Module) → find ms a ≡ some m
-    → undo (wrote (slot ms a) (r .start) (olds (m .places) (r .start) (sayings r))) (set ms (slot ms a) (told-by r m)) ≡ ms
+undo-wrote : (ms : List Module) (a : ℕ) (r : Run) (m : Module) → length (r .says) ≤ mostPlaces → find ms a ≡ some m
+    → undo (wrote (slot ms a) (r .start) (olds (m .places) (r .start))) (set ms (slot ms a) (told-by r m)) ≡ ms
 unfolding undo
-undo-wrote ms a r m x =
-    rw (set-set, getD-set-same ms (slot ms a) (told-by r m) nobody (slot-lt ms a m x), restored-told r m)
+undo-wrote ms a r m l x =
+    rw (set-set, getD-set-same ms (slot ms a) (told-by r m) nobody (slot-lt ms a m x), restored-told r m l)
     (ap (set ms (slot ms a)) (sym (find-slot ms a m x)) ∙ set-getD ms (slot ms a) nobody)
+
+-- a frame's run fits, also where an entry of the type known already names it
+sense-fits : (t : Option ℕ) (m : Meaning) → FitsAs m → FitsAs (sense t m)
+unfolding sense
+sense-fits t (refuses n) h = h
+sense-fits t (names r) h = h
+sense-fits none (enters k r) h = h
+sense-fits (some t) (enters k r) h = go (eqb t k)
+  where
+    go : (c : Bool) → FitsAs (cond c (names r) (enters k r))
+    go true = h
+    go false = h
+
+meaning-fits : (t : Option ℕ) (f : Frame) → FitsAs (meaning t f)
+unfolding meaning
+meaning-fits t f =
+    sense-fits t (readAs (handed t) (reading (handed t) (f .identifier) (f .remote) (f .bytes))) (runs-fit (handed t) (f .identifier) (f .remote) (f .bytes))
 
 -- What a step has to meet: the answer, the count and the modules.
 record Met (st : Step) (o : Judgement) (f : Frame) (S : List Frame) (k : ℕ) : Type 0 where
@@ -65,29 +87,33 @@ module _ (s : State) (f : Frame) (S : List Frame) (k : ℕ) (ready : Ready (s .l
   shown : Shows (s .modules) S
   shown = ready-shows (s .log) (s .modules) S ready
 
-  heard : (x : Option Module) (r : Meaning) → find (s .modules) (address f) ≡ x → At x S (address f) → meaning (typeOf S (address f)) f ≡ r
+  heard : (x : Option Module) (r : Meaning) → find (s .modules) (address f) ≡ x → At x S (address f) → meaning (typeOf S (address f)) f ≡ r → FitsAs r
       → Met (hears x (address f) r s) (judged (typeOf S (address f)) (listed S) r) f S k
-  unfolding hears judged kept-as stands counted undo
-  heard x (refuses n) e h m = record { ready = ready; count = count; answers = refl }
-  heard none (names r) e h m = met-logged (s .log) (s .modules) (s .modules) f S same k refl (shows-same f S (s .modules) r e m shown) ready count
-  heard (some w) (names r) e h m =
-      met-logged (s .log) (s .modules) (set (s .modules) (slot (s .modules) (address f)) (told-by r w)) f S
-      (wrote (slot (s .modules) (address f)) (r .start) (olds (w .places) (r .start) (sayings r))) k
-      (undo-wrote (s .modules) (address f) r w e) (shows-told f S (s .modules) r w e m shown) ready count
-  heard none (enters t r) e h m = rw (h, ← (shown .count)) (go (ltb (length (s .modules)) room))
+  unfolding hears judged kept-as stands counted undo told-in
+  heard x (refuses n) e h m fit = record { ready = ready; count = count; answers = refl }
+  heard none (names r) e h m fit = met-logged (s .log) (s .modules) (s .modules) f S same k refl (shows-nobody f S (s .modules) r e m shown) ready count
+  heard (some w) (names r) e h m fit = go (r .says) refl
+    where
+      go : (xs : List Saying) → r .says ≡ xs → Met (told-in xs (slot (s .modules) (address f)) r w s) accepted f S k
+      go [] q = met-logged (s .log) (s .modules) (s .modules) f S same k refl (shows-nothing f S (s .modules) r w q e m shown) ready count
+      go (x ∷ xs) q =
+          met-logged (s .log) (s .modules) (set (s .modules) (slot (s .modules) (address f)) (told-by r w)) f S
+          (wrote (slot (s .modules) (address f)) (r .start) (olds (w .places) (r .start))) k
+          (undo-wrote (s .modules) (address f) r w (fit .1) e) (shows-told f S (s .modules) r w e m shown) ready count
+  heard none (enters t r) e h m fit = rw (h, ← (shown .count)) (go (ltb (length (s .modules)) room))
     where
       go : (c : Bool) → Met (cond c (logged (s .modules ++ (new (address f) t r ∷ [])) entered (s .log)) (kept-as s noRoom)) (cond c accepted (refused noRoom)) f S k
       go true =
           met-logged (s .log) (s .modules) (s .modules ++ (new (address f) t r ∷ [])) f S entered k
           (butLast-append (s .modules) (new (address f) t r)) (shows-new f S (s .modules) t r e m shown) ready count
       go false = record { ready = ready; count = count; answers = refl }
-  heard (some w) (enters t r) e h m = rw (h .kind-is) (record { ready = shows-exchanged f S (s .modules) t r w e m shown; count = refl; answers = refl })
+  heard (some w) (enters t r) e h m fit = rw (h .kind-is) (record { ready = shows-exchanged f S (s .modules) t r w e m shown; count = refl; answers = refl })
 
   hear-met : Met (step (hear f) s) (judgement S f) f S k
   unfolding step judgement
   hear-met =
       rw (kind-at (find (s .modules) (address f)) S (address f) (shown .each (address f)))
-      (heard (find (s .modules) (address f)) (meaning (typeOf S (address f)) f) refl (shown .each (address f)) refl)
+      (heard (find (s .modules) (address f)) (meaning (typeOf S (address f)) f) refl (shown .each (address f)) refl (meaning-fits (typeOf S (address f)) f))
 
 -- What is so after a run of events.
 record Held (h : List Event) : Type 0 where
@@ -100,13 +126,13 @@ unfolding backs struck granted kept-as
 held-back ms [] S k r c = rw (← c) (r, refl, refl)
 held-back ms (u ∷ log) S k r c = rw (← c) (r .1, refl, refl)
 
-shows-nothing : Shows [] []
+fresh-shows : Shows [] []
 unfolding find listed typeOf
-shows-nothing = record { count = refl; each = λ a. refl }
+fresh-shows = record { count = refl; each = λ a. refl }
 
 held : (h : List Event) → Held h
 unfolding run standing step
-held [] = record { ready = shows-nothing; count = refl }
+held [] = record { ready = fresh-shows; count = refl }
 held (hear f ∷ h) =
     let m = hear-met (run h) f (standing h) (kept h) (held h .ready) (held h .count) in
     record { ready = m .ready; count = m .count }
@@ -115,7 +141,7 @@ held (back ∷ h) =
     record { ready = m .0; count = m .1 }
 
 -- What is held at a place of a module.
-place-met : (x : Option Module) (S : List Frame) (a : ℕ) → At x S a → (m : Module) → x ≡ some m → (p : ℕ) → p < places → getD (m .places) p unknown ≡ latest S a p
+place-met : (x : Option Module) (S : List Frame) (a : ℕ) → At x S a → (m : Module) → x ≡ some m → (p : ℕ) → p < places → getD (m .places) p none ≡ some (latest S a p)
 place-met none S a h m e p l = absurd (none-some e)
 place-met (some w) S a h m e p l = let o : w ≡ m = cc in rw o at (h .holds p l)
 
@@ -137,3 +163,40 @@ machine-agrees h =
       taken = shown-after h .count;
       next = next-met h;
     }
+
+-- ---- the log keeps no more than the depth, and loses nothing
+found-take : (n : ℕ) (us : List Undo) → AllFound us → AllFound (take n us)
+found-take zero us h = tt
+found-take (suc n) [] h = tt
+found-take (suc n) (u ∷ us) h = (h .0, found-take n us (h .1))
+
+logged-sound : (ms : List Module) (u : Undo) (us : List Undo) → Found u → Sound us → Sound (logged ms u us .state .log)
+unfolding logged
+logged-sound ms u us f h = (rw (length-take depth (u ∷ us)) (omega arith), found-take depth (u ∷ us) (f, h .1))
+
+hears-sound : (x : Option Module) (a : ℕ) (m : Meaning) (s : State) → Sound (s .log) → Sound (hears x a m s .state .log)
+unfolding hears kept-as told-in
+hears-sound x a (refuses n) s h = h
+hears-sound none a (names r) s h = logged-sound (s .modules) same (s .log) tt h
+hears-sound (some w) a (names r) s h = go (r .says)
+  where
+    go : (xs : List Saying) → Sound (told-in xs (slot (s .modules) a) r w s .state .log)
+    go [] = logged-sound (s .modules) same (s .log) tt h
+    go (x ∷ xs) = logged-sound (set (s .modules) (slot (s .modules) a) (told-by r w)) (wrote (slot (s .modules) a) (r .start) (olds (w .places) (r .start))) (s .log) tt h
+hears-sound none a (enters k r) s h = go (ltb (length (s .modules)) room)
+  where
+    go : (c : Bool) → Sound (cond c (logged (s .modules ++ (new a k r ∷ [])) entered (s .log)) (kept-as s noRoom) .state .log)
+    go true = logged-sound (s .modules ++ (new a k r ∷ [])) entered (s .log) tt h
+    go false = h
+hears-sound (some w) a (enters k r) s h = (omega arith, tt)
+
+backs-sound : (ms : List Module) (us : List Undo) → Sound us → Sound (backs ms us .state .log)
+unfolding backs kept-as
+backs-sound ms [] h = h
+backs-sound ms (u ∷ us) h = (let l = h .0 in omega arith, h .1 .1)
+
+pub sound : (h : List Event) → Sound (run h .log)
+unfolding run step
+sound [] = (omega arith, tt)
+sound (hear f ∷ h) = hears-sound _ (address f) _ (run h) (sound h)
+sound (back ∷ h) = backs-sound (run h .modules) (run h .log) (sound h)

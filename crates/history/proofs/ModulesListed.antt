@@ -8,8 +8,9 @@ use mathlib.Core.List.{List, [], _∷_, reverseAux}
 use mathlib.Core.Option.{Option, none, some}
 use lib.Dec.{eqb}
 use borrow.Author.Tests.{eqb-true, eqb-false, ne-eqb}
-use Rattle.picture.specs.Limits.{addresses}
-use Rattle.history.specs.Standing.{Frame, address, Meaning, refuses, names, enters, meaning, typed, typeOf, more, listed, Event}
+use Rattle.places.specs.Limits.{addresses}
+use Rattle.places.specs.Runs.{Meaning, refuses, names, enters}
+use Rattle.history.specs.Standing.{Frame, address, meaning, typed, typeOf, more, listed, Event}
 use Rattle.history.specs.Asked.{yesIf}
 use Rattle.history.specs.Demand3.{listedBelow, ListedIs, runBytes, runsBytes, InOrder}
 use Rattle.history.proofs.Shows.{other-type, here-type}

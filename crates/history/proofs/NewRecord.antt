@@ -3,18 +3,20 @@ use Prim.Native.Nat.{ℕ, _+_, _*_, _<_, _≤_}
 use native.Mathlib.Omega.{arith}
 use mathlib.Core.Path.{_≡_, ap, _∙_}
 use mathlib.Core.List.{List}
+use mathlib.Core.Option.{some}
 use lib.ListN.{getD, set, length, length-set}
 use lib.Seq.{getD-set-same, getD-set-other}
 use Rattle.laws.proofs.Tab.{tab-ext, tab-same}
-use Rattle.picture.specs.Runs.{Run}
-use Rattle.picture.specs.Layout.{recordSize, recordAt, kindAt, placeAt, size}
-use Rattle.picture.specs.Places.{places}
-use Rattle.picture.specs.Limits.{room}
+use Rattle.places.specs.Runs.{Run}
+use Rattle.places.specs.Layout.{recordSize, recordAt, kindAt, placeAt, size}
+use Rattle.places.specs.Places.{places}
+use Rattle.places.specs.Limits.{room}
 use Rattle.history.specs.Standing.{unknown}
-use Rattle.picture.specs.Bytes.{countOf, blankRecord, newRecord}
+use Rattle.places.specs.Fitting.{endOf}
+use Rattle.picture.specs.Hearing.{blankRecord, newRecord}
 use Rattle.history.specs.Machine.{told-by, blank, new}
-use Rattle.history.specs.Refinement.{knownAt, moduleAt}
-use Rattle.history.proofs.Stores.{Within, within-then, within-wider, within-set, within-blanked, blanked-known}
+use Rattle.history.specs.Refinement.{cellAt, moduleAt}
+use Rattle.history.proofs.Stores.{Within, within-then, within-wider, within-set, within-blanked, blanked-cell}
 use Rattle.history.proofs.Told.{within-told, told-module}
 
 module _ (b : List ℕ) (s a k : ℕ) (whole : size ≤ length b) (slot-ok : s < room) where
@@ -45,11 +47,11 @@ module _ (b : List ℕ) (s a k : ℕ) (whole : size ≤ length b) (slot-ok : s <
   blank-kind =
       within-rows .outside (kindAt s) (λ p q. omega arith) ∙ getD-set-same (set b (recordAt s) a) (kindAt s) k 0 (rw length-set (omega arith))
 
-  blank-known : (p : ℕ) → p < places → knownAt (blankRecord b s a k) (placeAt s p) ≡ unknown
+  blank-cell : (p : ℕ) → p < places → cellAt (blankRecord b s a k) (placeAt s p) ≡ some unknown
   unfolding blankRecord
-  blank-known p l =
+  blank-cell p l =
       let q : placeAt s 0 + 2 * p ≡ placeAt s p = omega arith in
-      rw q at (blanked-known headed (placeAt s 0) places p l (rw (within-headed .long) (omega arith)))
+      rw q at (blanked-cell headed (placeAt s 0) places p l (rw (within-headed .long) (omega arith)))
 
   blank-module : moduleAt (blankRecord b s a k) s ≡ record { address = a; kind = k; places = blank }
   unfolding moduleAt blank
@@ -57,11 +59,11 @@ module _ (b : List ℕ) (s a k : ℕ) (whole : size ≤ length b) (slot-ok : s <
       rw (
         blank-address,
         blank-kind,
-        tab-ext places (λ p. knownAt (blankRecord b s a k) (placeAt s p)) (λ p. unknown) blank-known,
-        tab-same places unknown,
+        tab-ext places (λ p. cellAt (blankRecord b s a k) (placeAt s p)) (λ p. some unknown) blank-cell,
+        tab-same places (some unknown),
       )
 
-  module _ (r : Run) (fit : r .start + countOf r ≤ places) where
+  module _ (r : Run) (fit : endOf r ≤ places) where
     pub within-new : Within (recordAt s) (recordAt s + recordSize) b (newRecord b s a k r)
     unfolding newRecord
     within-new = within-then within-blank (within-wider (omega arith) (omega arith) (within-told (blankRecord b s a k) s r whole-blank slot-ok fit))

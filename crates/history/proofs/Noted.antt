@@ -1,72 +1,73 @@
--- A log entry that is one byte, and a step with no effect: the bytes after it are those of the machine's state after it. Assumes nothing.
-use Prim.Native.Nat.{ℕ, _+_, _<_, _≤_}
+-- The log's next entry: what it undoes goes by its offset and the bytes that it keeps, and nothing else changes. Assumes nothing.
+use Prim.Native.Nat.{ℕ, _+_, _*_, _/_, _%_, _<_, _≤_}
 use native.Mathlib.Omega.{arith}
-use mathlib.Core.Path.{_≡_, _∙_}
+use mathlib.Core.Path.{_≡_}
 use mathlib.Core.List.{List}
 use lib.ListN.{getD, length}
-use Rattle.laws.proofs.Tab.{tab-ext}
-use Rattle.picture.specs.Layout.{countAt, keptAt, nextAt, slotAt, recordAt, entryHead, entryAt, size}
-use Rattle.picture.specs.Limits.{room}
-use Rattle.picture.specs.Bytes.{modulesOf, nextOf, didNothing, didEnter, opened, sameBytes}
-use Rattle.history.specs.Machine.{same, entered, logged}
-use Rattle.history.specs.Refinement.{moduleAt, undoAt, stateOf, Good}
-use Rattle.history.proofs.Stores.{Within}
-use Rattle.history.proofs.Parts.{module-apart, undo-apart, modules-few, modules-by, kept-by, next-by, within-stepped, logged-log, state-is, good-still}
-use Rattle.history.proofs.Told.{within-opened, opened-at}
+use Rattle.places.specs.Limits.{ring}
+use Rattle.places.specs.Layout.{keptAt, nextAt, entrySize, oldAt, offsetAt, size}
+use Rattle.places.specs.Head.{nextOf}
+use Rattle.picture.specs.Log.{didNothing, didEnter, numberBytes, notedAt, noted}
+use Rattle.picture.specs.Stepping.{offsetOf}
+use Rattle.history.specs.Machine.{Undo, same, entered}
+use Rattle.history.specs.Refinement.{undoAt, stateOf, Good}
+use Rattle.history.proofs.Stores.{Within, within-wider, laid-within, laid-at, stored-lays}
+use Rattle.history.proofs.Parts.{undo-apart, next-small, good-within, modules-still, Does}
 
-module _ (b : List ℕ) (what : ℕ) (whole : size ≤ length b) where
-  abbrev pub tag : List ℕ
-  tag = opened b what 0 0 0
+-- a number is the sum of its four bytes
+summed : (n a b c d q r : ℕ) → n ≡ 256 * q + a → q ≡ 256 * r + b → r ≡ 256 * d + c → a + 256 * b + 65536 * c + 16777216 * d ≡ n
+summed n a b c d q r h k l = omega arith
 
-  pub within-tag : Within (entryAt (nextOf b)) (entryAt (nextOf b) + entryHead) b tag
-  within-tag = within-opened b what 0 0 0 whole
+four-bytes : (n : ℕ) → n < 4294967296 → n % 256 + 256 * (n / 256 % 256) + 65536 * (n / 65536 % 256) + 16777216 * (n / 16777216 % 256) ≡ n
+four-bytes n h =
+    let p : n / 65536 ≡ n / 256 / 256 = omega arith in
+    let q : n / 16777216 ≡ n / 256 / 256 / 256 = omega arith in
+    let d : n / 16777216 % 256 ≡ n / 256 / 256 / 256 = omega arith in
+    rw (d, p) (summed n (n % 256) (n / 256 % 256) (n / 256 / 256 % 256) (n / 256 / 256 / 256) (n / 256) (n / 256 / 256) (omega arith) (omega arith) (omega arith))
 
-  tag-is : getD tag (entryAt (nextOf b)) 0 ≡ what
-  tag-is = opened-at b what 0 0 0 whole (entryAt (nextOf b)) 0 (omega arith) (omega arith)
+module _ (b : List ℕ) (e n : ℕ) (whole : size ≤ length b) (e-ok : e < ring) where
+  pub within-offset : Within (offsetAt e) (offsetAt e + 4) b (notedAt b e n)
+  unfolding notedAt
+  within-offset = laid-within (stored-lays b (offsetAt e) (numberBytes n)) 4
 
-tag-same : (b : List ℕ) (whole : size ≤ length b) → undoAt (tag b didNothing whole) (nextOf b) ≡ same
-unfolding undoAt
-tag-same b whole = rw (tag-is b didNothing whole)
+  byte-at : (o j : ℕ) → o ≡ offsetAt e + j → j < 4 → getD (notedAt b e n) o 0 ≡ getD (numberBytes n) j 0
+  unfolding notedAt
+  byte-at o j q h = rw q (laid-at (stored-lays b (offsetAt e) (numberBytes n)) 4 j h (omega arith))
 
-pub tag-entered : (b : List ℕ) (whole : size ≤ length b) → undoAt (tag b didEnter whole) (nextOf b) ≡ entered
-unfolding undoAt
-tag-entered b whole = rw (tag-is b didEnter whole)
+  pub offset-is : n < 4294967296 → offsetOf (notedAt b e n) e ≡ n
+  offset-is h =
+      rw (
+        byte-at (offsetAt e) 0 (omega arith) (omega arith),
+        byte-at (offsetAt e + 1) 1 (omega arith) (omega arith),
+        byte-at (offsetAt e + 2) 2 (omega arith) (omega arith),
+        byte-at (offsetAt e + 3) 3 (omega arith) (omega arith),
+      )
+      (four-bytes n h)
 
--- ---- a step with no effect
+-- the next entry alone changed
+pub does-entry : (b c : List ℕ) (u : Undo) → Good b → Within (oldAt (nextOf b)) (oldAt (nextOf b) + entrySize) b c → undoAt c (nextOf b) ≡ u → Does b c u (stateOf b .modules)
+does-entry b c u good w h =
+    record {
+      good = good-within w (λ p q. omega arith) (λ a l p q. omega arith) (λ s l p q. omega arith) good;
+      logs =
+          record {
+            kept-is = w .outside keptAt (λ p q. omega arith);
+            next-is = w .outside nextAt (λ p q. omega arith);
+            latest-is = h;
+            others-are = λ e l d. undo-apart w e (λ o p q x y. omega arith);
+          };
+      modules-are = modules-still w (λ p q. omega arith) (λ o p q x y. omega arith);
+    }
+
+-- nothing done, and a module entered
 module _ (b : List ℕ) (good : Good b) where
-  abbrev t : List ℕ
-  t = tag b didNothing (good .whole)
+  pub within-noted : (n : ℕ) → Within (oldAt (nextOf b)) (oldAt (nextOf b) + entrySize) b (noted b n)
+  within-noted n = within-wider (omega arith) (omega arith) (within-offset b (nextOf b) n (good .whole) (next-small b))
 
-  abbrev tw : Within (entryAt (nextOf b)) (entryAt (nextOf b) + entryHead) b t
-  tw = within-tag b didNothing (good .whole)
+  pub does-same : Does b (noted b didNothing) same (stateOf b .modules)
+  unfolding undoAt
+  does-same = does-entry b (noted b didNothing) same good (within-noted didNothing) (rw (offset-is b (nextOf b) didNothing (good .whole) (next-small b) (omega arith)))
 
-  whole-t : size ≤ length t
-  whole-t = rw (tw .long) (good .whole)
-
-  same-low : (o : ℕ) → o < entryAt 0 → (keptAt ≤ o → o < nextAt + 1 → ⊥) → getD (sameBytes b) o 0 ≡ getD b o 0
-  unfolding sameBytes
-  same-low o h n = within-stepped t whole-t .outside o n ∙ tw .outside o (λ p q. omega arith)
-
-  same-count : modulesOf (sameBytes b) ≡ modulesOf b
-  same-count = modules-by b (sameBytes b) (same-low countAt (omega arith) (λ p q. omega arith))
-
-  pub same-good : Good (sameBytes b)
-  unfolding sameBytes
-  same-good =
-      good-still b (sameBytes b) good (within-stepped t whole-t .long ∙ tw .long) (rw same-count (omega arith))
-      (λ j h. same-low (recordAt j) (omega arith) (λ p q. omega arith)) (λ a h. same-low (slotAt a) (omega arith) (λ p q. omega arith))
-
-  same-module : (j : ℕ) → j < room → moduleAt (sameBytes b) j ≡ moduleAt b j
-  unfolding sameBytes
-  same-module j h = module-apart (within-stepped t whole-t) j (λ o p q m n. omega arith) ∙ module-apart tw j (λ o p q m n. omega arith)
-
-  pub same-state : stateOf (sameBytes b) ≡ logged (stateOf b .modules) same (stateOf b .log) .state
-  unfolding stateOf logged sameBytes
-  same-state =
-      state-is (sameBytes b) _ _
-      (rw same-count (tab-ext (modulesOf b) (moduleAt (sameBytes b)) (moduleAt b) (λ j l. same-module j (omega (arith, modules-few b)))))
-      (logged-log b t same whole-t
-      (kept-by b t (tw .outside keptAt (λ p q. omega arith)))
-      (next-by b t (tw .outside nextAt (λ p q. omega arith)))
-      (tag-same b (good .whole))
-      (λ x l d. undo-apart tw x (λ o p q m n. omega arith)))
+  pub does-enter : Does b (noted b didEnter) entered (stateOf b .modules)
+  unfolding undoAt
+  does-enter = does-entry b (noted b didEnter) entered good (within-noted didEnter) (rw (offset-is b (nextOf b) didEnter (good .whole) (next-small b) (omega arith)))

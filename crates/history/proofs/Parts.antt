@@ -1,129 +1,60 @@
--- Each module and each log entry goes by its own bytes, and what steers by the head. Assumes nothing.
-use Prim.Native.Nat.{ℕ, suc, _+_, _*_, _<_, _≤_, min}
+-- Each module and each log entry goes by its own bytes, and what steers by the head; so what a change of a few bytes leaves as it was. Assumes nothing.
+use Prim.Native.Nat.{ℕ, suc, _+_, _*_, _<_, _≤_, min, _%_}
 use native.Mathlib.Omega.{arith}
-use mathlib.Core.Path.{_≡_, _∙_}
+use mathlib.Core.Path.{_≡_, refl, sym, ap, _∙_}
+use mathlib.Core.Bool.{Bool, true, false, cond}
+use mathlib.Core.Logic.{_≢_}
 use mathlib.Core.List.{List, _∷_}
+use mathlib.Core.Option.{none}
+use lib.Dec.{ltb}
 use lib.ListN.{getD, set, length, take, length-set}
-use lib.Seq.{getD-set-same, getD-set-other}
+use lib.Seq.{getD-set-same, getD-set-other, set-getD}
+use borrow.Author.Tests.{ltb-true, ltb-false, le-ltb}
 use Rattle.laws.specs.Tab.{tab}
 use Rattle.laws.proofs.Tab.{tab-ext, tab-set, length-tab}
-use Rattle.picture.specs.Layout.{countAt, keptAt, nextAt, slotAt, recordSize, recordAt, kindAt, placeAt, entrySize, entryAt, oldAt, size}
-use Rattle.picture.specs.Places.{places}
-use Rattle.picture.specs.Limits.{room, depth, addresses}
-use Rattle.picture.specs.Bytes.{modulesOf, keptOf, nextOf, following, stepped, undoneCount}
-use Rattle.history.specs.Machine.{Module, Undo, same}
-use Rattle.history.specs.Refinement.{knownAt, moduleAt, undoAt, entries, stateOf, Good}
-use Rattle.history.proofs.Ring.{push}
-use Rattle.history.proofs.Stores.{Within, within-then, within-wider, within-set}
-
-module _ {lo hi : ℕ} {b c : List ℕ} (w : Within lo hi b c) where
-  -- bytes from `from` up to `to` that lie apart from those that changed
-  abbrev Apart : ℕ → ℕ → Type 0
-  Apart from to = (o : ℕ) → from ≤ o → o < to → lo ≤ o → o < hi → ⊥
-
-  pub byte-apart : (from to o : ℕ) → Apart from to → from ≤ o → o < to → getD c o 0 ≡ getD b o 0
-  byte-apart from to o n f t = w .outside o (n o f t)
-
-  pub known-apart : (from to o : ℕ) → Apart from to → from ≤ o → o + 1 < to → knownAt c o ≡ knownAt b o
-  unfolding knownAt
-  known-apart from to o n f t = rw (w .outside o (n o f (omega arith)), w .outside (o + 1) (n (o + 1) (omega arith) t))
-
-  pub module-apart : (s : ℕ) → Apart (recordAt s) (recordAt s + recordSize) → moduleAt c s ≡ moduleAt b s
-  unfolding moduleAt
-  module-apart s n =
-      rw (
-        byte-apart (recordAt s) (recordAt s + recordSize) (recordAt s) n (omega arith) (omega arith),
-        byte-apart (recordAt s) (recordAt s + recordSize) (kindAt s) n (omega arith) (omega arith),
-        tab-ext places (λ p. knownAt c (placeAt s p)) (λ p. knownAt b (placeAt s p))
-            (λ p l. known-apart (recordAt s) (recordAt s + recordSize) (placeAt s p) n (omega arith) (omega arith)),
-      )
-
-  pub undo-apart : (e : ℕ) → Apart (entryAt e) (entryAt e + entrySize) → undoAt c e ≡ undoAt b e
-  unfolding undoAt
-  undo-apart e n =
-      rw (
-        byte-apart (entryAt e) (entryAt e + entrySize) (entryAt e) n (omega arith) (omega arith),
-        byte-apart (entryAt e) (entryAt e + entrySize) (entryAt e + 1) n (omega arith) (omega arith),
-        byte-apart (entryAt e) (entryAt e + entrySize) (entryAt e + 2) n (omega arith) (omega arith),
-        byte-apart (entryAt e) (entryAt e + entrySize) (entryAt e + 3) n (omega arith) (omega arith),
-        byte-apart (entryAt e) (entryAt e + entrySize) (entryAt e + 4) n (omega arith) (omega arith),
-        tab-ext (undoneCount b e) (λ i. knownAt c (oldAt e + 2 * i)) (λ i. knownAt b (oldAt e + 2 * i))
-            (λ i l. known-apart (entryAt e) (entryAt e + entrySize) (oldAt e + 2 * i) n (omega arith) (omega arith)),
-      )
+use Rattle.places.specs.Limits.{room, ring, depth, addresses, mostPlaces}
+use Rattle.places.specs.Places.{places}
+use Rattle.places.specs.Layout.{countAt, keptAt, nextAt, slotAt, recordSize, recordAt, kindAt, placeAt, ringAt, entrySize, oldAt, offsetAt, size}
+use Rattle.places.specs.Head.{short, modulesOf, keptOf, nextOf, before, following}
+use Rattle.picture.specs.Log.{oneMore, stepped}
+use Rattle.picture.specs.Stepping.{offsetOf}
+use Rattle.history.specs.Machine.{Cell, Module, nobody, Undo, same, State}
+use Rattle.history.specs.Refinement.{placeOf, cellAt, oldCell, wroteAt, moduleAt, undoAt, entries, stateOf, Good}
+use Rattle.history.proofs.Ring.{push, length-entries}
+use Rattle.history.proofs.Stores.{Within, within-then, within-wider, within-set, Apart, cell-outside}
 
 -- what steers
 pub modules-few : (b : List ℕ) → modulesOf b ≤ room
 unfolding modulesOf
 modules-few b = omega arith
 
-pub next-small : (b : List ℕ) → nextOf b < depth
+pub next-small : (b : List ℕ) → nextOf b < ring
 unfolding nextOf
 next-small b = omega arith
 
-pub kept-small : (b : List ℕ) → keptOf b ≤ depth
-unfolding keptOf
-kept-small b = omega arith
-
-pub modules-by : (b c : List ℕ) → getD c countAt 0 ≡ getD b countAt 0 → modulesOf c ≡ modulesOf b
-unfolding modulesOf
-modules-by b c h = rw h
-
-pub kept-by : (b c : List ℕ) → getD c keptAt 0 ≡ getD b keptAt 0 → keptOf c ≡ keptOf b
-unfolding keptOf
-kept-by b c h = rw h
-
-pub next-by : (b c : List ℕ) → getD c nextAt 0 ≡ getD b nextAt 0 → nextOf c ≡ nextOf b
+following-is : (b : List ℕ) → (getD b nextAt 0 + 1) % 256 % ring ≡ following (nextOf b)
 unfolding nextOf
-next-by b c h = rw h
+following-is b = omega arith
 
--- what steers, stored
+pub before-is : (b : List ℕ) → (getD b nextAt 0 + 255) % 256 % ring ≡ before (nextOf b)
+unfolding nextOf
+before-is b = omega arith
+
 pub modules-stored : (b : List ℕ) (n : ℕ) → size ≤ length b → n ≤ room → modulesOf (set b countAt n) ≡ n
 unfolding modulesOf
 modules-stored b n l h = rw (getD-set-same b countAt n 0 (omega arith)) (omega arith)
 
--- the count kept and the ring's next entry
-module _ (b : List ℕ) (k n : ℕ) (whole : size ≤ length b) where
-  pub within-steer : Within keptAt (nextAt + 1) b (set (set b keptAt k) nextAt n)
-  within-steer = within-then (within-wider (omega arith) (omega arith) (within-set b keptAt k)) (within-wider (omega arith) (omega arith) (within-set (set b keptAt k) nextAt n))
+-- the count kept is the length of the log
+pub kept-is : (b : List ℕ) → length (stateOf b .log) ≡ keptOf b
+unfolding stateOf
+kept-is b = length-entries (tab ring (undoAt b)) (nextOf b) (keptOf b)
 
-  pub kept-stored : k ≤ depth → keptOf (set (set b keptAt k) nextAt n) ≡ k
-  unfolding keptOf
-  kept-stored h = rw (getD-set-other (set b keptAt k) nextAt keptAt n 0 (omega arith), getD-set-same b keptAt k 0 (omega arith)) (omega arith)
-
-  pub next-stored : n < depth → nextOf (set (set b keptAt k) nextAt n) ≡ n
-  unfolding nextOf
-  next-stored h = rw (getD-set-same (set b keptAt k) nextAt n 0 (rw length-set (omega arith))) (omega arith)
-
--- a step counted
-pub within-stepped : (b : List ℕ) → size ≤ length b → Within keptAt (nextAt + 1) b (stepped b)
-unfolding stepped
-within-stepped b l = within-steer b _ _ l
-
-pub stepped-kept : (b : List ℕ) → size ≤ length b → keptOf (stepped b) ≡ min depth (suc (keptOf b))
-unfolding stepped
-stepped-kept b l = kept-stored b _ _ l (omega arith)
-
-pub stepped-next : (b : List ℕ) → size ≤ length b → nextOf (stepped b) ≡ following (nextOf b)
-unfolding stepped
-stepped-next b l = next-stored b _ _ l (omega arith)
-
--- the log after a step that is logged, whatever the rest of the step does
-pub logged-log : (b d : List ℕ) (u : Undo) → size ≤ length d → keptOf d ≡ keptOf b → nextOf d ≡ nextOf b → undoAt d (nextOf b) ≡ u
-    → ((e : ℕ) → e < depth → (e ≡ nextOf b → ⊥) → undoAt d e ≡ undoAt b e)
-    → entries (tab depth (undoAt (stepped d))) (nextOf (stepped d)) (keptOf (stepped d)) ≡ take depth (u ∷ entries (tab depth (undoAt b)) (nextOf b) (keptOf b))
-logged-log b d u l k n h each =
-    let still : (e : ℕ) → undoAt (stepped d) e ≡ undoAt d e = λ e. undo-apart (within-stepped d l) e (λ o p q r t. omega arith) in
-    rw (
-      stepped-kept d l,
-      stepped-next d l,
-      k,
-      n,
-      tab-set depth (undoAt b) (undoAt (stepped d)) (nextOf b) u same (λ m. still (nextOf b) ∙ h) (λ e m x. still e ∙ each e m x),
-    )
-    (push depth (keptOf b) (nextOf b) (tab depth (undoAt b)) u (omega arith) (next-small b) (length-tab depth (undoAt b)))
+-- good bytes are enough
+pub enough : (b : List ℕ) → Good b → short b ≡ false
+enough b good = le-ltb (length b) size (good .whole)
 
 -- a state by its two parts
-pub state-is : (b : List ℕ) (ms : List Module) (us : List Undo) → tab (modulesOf b) (moduleAt b) ≡ ms → entries (tab depth (undoAt b)) (nextOf b) (keptOf b) ≡ us
+pub state-is : (b : List ℕ) (ms : List Module) (us : List Undo) → tab (modulesOf b) (moduleAt b) ≡ ms → entries (tab ring (undoAt b)) (nextOf b) (keptOf b) ≡ us
     → stateOf b ≡ record { modules = ms; log = us }
 unfolding stateOf
 state-is b ms us p q = rw (p, q)
@@ -139,3 +70,137 @@ good-still b c good l m heads table =
       table = λ s h.
           rw (heads s (omega (arith, modules-few b)), table (getD b (recordAt s) 0) (good .small s (omega arith))) (good .table s (omega arith));
     }
+
+-- ---- bytes from lo up to hi changed
+module _ {lo hi : ℕ} {b c : List ℕ} (w : Within lo hi b c) where
+  pub module-apart : (s : ℕ) → Apart lo hi (recordAt s) (recordAt s + recordSize) → moduleAt c s ≡ moduleAt b s
+  unfolding moduleAt
+  module-apart s n =
+      rw (
+        w .outside (recordAt s) (n (recordAt s) (omega arith) (omega arith)),
+        w .outside (kindAt s) (n (kindAt s) (omega arith) (omega arith)),
+        tab-ext places (λ p. cellAt c (placeAt s p)) (λ p. cellAt b (placeAt s p)) (λ p l. cell-outside w (placeAt s p) (λ o x y. n o (omega arith) (omega arith))),
+      )
+
+  wrote-apart : (e o : ℕ) → Apart lo hi (oldAt e) (oldAt e + entrySize) → wroteAt c e o ≡ wroteAt b e o
+  unfolding wroteAt
+  wrote-apart e o n =
+      rw (tab-ext mostPlaces (oldCell c e (placeOf o)) (oldCell b e (placeOf o))
+      (λ i l. ap (λ (x : Cell). cond (ltb (placeOf o + i) places) x none) (cell-outside w (oldAt e + 2 * i) (λ o x y. n o (omega arith) (omega arith)))))
+
+  pub undo-apart : (e : ℕ) → Apart lo hi (oldAt e) (oldAt e + entrySize) → undoAt c e ≡ undoAt b e
+  unfolding undoAt
+  undo-apart e n =
+      let at : (j : ℕ) → j < 4 → getD c (offsetAt e + j) 0 ≡ getD b (offsetAt e + j) 0 = λ j l. w .outside (offsetAt e + j) (n (offsetAt e + j) (omega arith) (omega arith)) in
+      rw (
+        w .outside (offsetAt e) (n (offsetAt e) (omega arith) (omega arith)),
+        at 1 (omega arith),
+        at 2 (omega arith),
+        at 3 (omega arith),
+        wrote-apart e (offsetOf b e) n,
+      )
+
+  pub modules-by : (lo ≤ countAt → countAt < hi → ⊥) → modulesOf c ≡ modulesOf b
+  unfolding modulesOf
+  modules-by n = rw (w .outside countAt n)
+
+  -- no byte of the head but those of the log, no byte of the table, no module's address
+  pub good-within : (lo ≤ countAt → countAt < hi → ⊥) → ((a : ℕ) → a < addresses → lo ≤ slotAt a → slotAt a < hi → ⊥)
+      → ((s : ℕ) → s < room → lo ≤ recordAt s → recordAt s < hi → ⊥) → Good b → Good c
+  good-within n l h good =
+      good-still b c good (w .long) (rw (modules-by n) (omega arith)) (λ s k. w .outside (recordAt s) (h s k)) (λ a k. w .outside (slotAt a) (l a k))
+
+  -- no byte of a record
+  pub modules-still : (lo ≤ countAt → countAt < hi → ⊥) → Apart lo hi (recordAt 0) (recordAt room) → stateOf c .modules ≡ stateOf b .modules
+  unfolding stateOf
+  modules-still n l =
+      rw (modules-by n) (tab-ext (modulesOf b) (moduleAt c) (moduleAt b) (λ s h. module-apart s (λ o x y. l o (omega arith) (omega (arith, modules-few b)))))
+
+-- one record changed
+pub record-changed : {b c : List ℕ} (s : ℕ) (m : Module) → Within (recordAt s) (recordAt s + recordSize) b c → (s < modulesOf b → moduleAt c s ≡ m)
+    → stateOf c .modules ≡ set (stateOf b .modules) s m
+unfolding stateOf
+record-changed {b} {c} s m w h =
+    rw (modules-by w (λ p q. omega arith))
+    (tab-set (modulesOf b) (moduleAt b) (moduleAt c) s m nobody h (λ j l d. module-apart w j (λ o p q x y. omega arith)))
+
+-- ---- the count kept and the ring's next entry
+module _ (b : List ℕ) (k n : ℕ) (whole : size ≤ length b) where
+  within-steer : Within keptAt (nextAt + 1) b (set (set b keptAt k) nextAt n)
+  within-steer = within-then (within-wider (omega arith) (omega arith) (within-set b keptAt k)) (within-wider (omega arith) (omega arith) (within-set (set b keptAt k) nextAt n))
+
+  kept-stored : keptOf (set (set b keptAt k) nextAt n) ≡ k
+  unfolding keptOf
+  kept-stored = rw (getD-set-other (set b keptAt k) nextAt keptAt n 0 (omega arith), getD-set-same b keptAt k 0 (omega arith))
+
+  next-stored : nextOf (set (set b keptAt k) nextAt n) ≡ n % ring
+  unfolding nextOf
+  next-stored = rw (getD-set-same (set b keptAt k) nextAt n 0 (rw length-set (omega arith)))
+
+  pub steer-good : Good b → Good (set (set b keptAt k) nextAt n)
+  steer-good = good-within within-steer (λ p q. omega arith) (λ a l p q. omega arith) (λ s l p q. omega arith)
+
+  -- the whole state
+  pub steer-state : (ms : List Module) (next : ℕ) → stateOf b .modules ≡ ms → n % ring ≡ next
+      → stateOf (set (set b keptAt k) nextAt n) ≡ record { modules = ms; log = entries (tab ring (undoAt b)) next k }
+  unfolding stateOf
+  steer-state ms next p q =
+      state-is (set (set b keptAt k) nextAt n) ms _ (modules-still within-steer (λ p q. omega arith) (λ o p q x y. omega arith) ∙ p)
+      (rw (kept-stored, next-stored, q, tab-ext ring (undoAt (set (set b keptAt k) nextAt n)) (undoAt b) (λ e l. undo-apart within-steer e (λ o p q x y. omega arith))))
+
+-- a step counted
+one-more : (b : List ℕ) → keptOf b ≤ depth → oneMore b ≡ set b keptAt (min depth (suc (keptOf b)))
+unfolding keptOf
+one-more b h = go (ltb (getD b keptAt 0) depth) refl
+  where
+    go : (c : Bool) → ltb (getD b keptAt 0) depth ≡ c → cond c (set b keptAt (suc (getD b keptAt 0))) b ≡ set b keptAt (min depth (suc (getD b keptAt 0)))
+    go true e = let l = ltb-true (getD b keptAt 0) depth e in let q : min depth (suc (getD b keptAt 0)) ≡ suc (getD b keptAt 0) = omega arith in rw q
+    go false e =
+        let l = ltb-false (getD b keptAt 0) depth e in let q : min depth (suc (getD b keptAt 0)) ≡ getD b keptAt 0 = omega arith in rw q (sym (set-getD b keptAt 0))
+
+-- The bytes d hold the log that the bytes b hold, with u in the next entry.
+pub record Logs (b d : List ℕ) (u : Undo) : Type 0 where
+  pub kept-is : getD d keptAt 0 ≡ getD b keptAt 0
+  pub next-is : getD d nextAt 0 ≡ getD b nextAt 0
+  pub latest-is : undoAt d (nextOf b) ≡ u
+  pub others-are : (e : ℕ) → e < ring → e ≢ nextOf b → undoAt d e ≡ undoAt b e
+
+-- so they do after a change of bytes of no log
+pub logs-still : {lo hi : ℕ} {b c d : List ℕ} {u : Undo} → Within lo hi c d → (lo ≤ nextAt → keptAt < hi → ⊥) → hi ≤ ringAt → Logs b c u → Logs b d u
+logs-still w n l h =
+    record {
+      kept-is = w .outside keptAt (λ p q. n (omega arith) (omega arith)) ∙ h .kept-is;
+      next-is = w .outside nextAt (λ p q. n (omega arith) (omega arith)) ∙ h .next-is;
+      latest-is = undo-apart w _ (λ o p q x y. omega arith) ∙ h .latest-is;
+      others-are = λ e k d. undo-apart w e (λ o p q x y. omega arith) ∙ h .others-are e k d;
+    }
+
+-- What a logged step does before it is counted: the bytes d are good, with u in the log's next entry, and hold the modules ms.
+pub record Does (b d : List ℕ) (u : Undo) (ms : List Module) : Type 0 where
+  pub good : Good d
+  pub logs : Logs b d u
+  pub modules-are : stateOf d .modules ≡ ms
+
+-- and after it is counted
+module _ (b d : List ℕ) (u : Undo) (ms : List Module) (does : Does b d u ms) (few : keptOf b ≤ depth) where
+  kept-same : keptOf d ≡ keptOf b
+  unfolding keptOf
+  kept-same = does .logs .kept-is
+
+  counted : stepped d ≡ set (set d keptAt (min depth (suc (keptOf b)))) nextAt ((getD b nextAt 0 + 1) % 256)
+  unfolding stepped
+  counted = rw (one-more d (rw kept-same few), kept-same, does .logs .next-is)
+
+  pub stepped-good : Good (stepped d)
+  stepped-good = rw counted (steer-good d _ _ (does .good .whole) (does .good))
+
+  pub stepped-state : stateOf (stepped d) ≡ record { modules = ms; log = take depth (u ∷ stateOf b .log) }
+  unfolding stateOf
+  stepped-state =
+      rw (
+        counted,
+        steer-state d (min depth (suc (keptOf b))) ((getD b nextAt 0 + 1) % 256) (does .good .whole) ms (following (nextOf b)) (does .modules-are) (following-is b),
+        tab-set ring (undoAt b) (undoAt d) (nextOf b) u same (λ m. does .logs .latest-is) (does .logs .others-are),
+      )
+      (ap {B = State} (λ us. record { modules = ms; log = us })
+      (push depth (keptOf b) (nextOf b) (tab ring (undoAt b)) u (omega arith) (next-small b) (length-tab ring (undoAt b))))

@@ -6,16 +6,14 @@ use mathlib.Core.Bool.{Bool, true, false, cond}
 use mathlib.Core.List.{List}
 use lib.Dec.{eqb, ltb}
 use Rattle.laws.specs.Refusals.{noRoom, nothingKept, tooShort}
-use Rattle.frame.specs.Reading.{reading}
-use Rattle.frame.specs.declared.messages.Message.the-variants.{TypeRequest, Tells}
-use Rattle.frame.specs.declared.reader.Reading.{Reading}
-use Rattle.frame.specs.declared.reader.Reading.the-variants as reading-of
-use Rattle.picture.specs.declared.Outcome.the-variants.{Refused}
-use Rattle.picture.specs.Limits.{room, busAddress}
+use Rattle.places.specs.declared.answers.Outcome.the-variants.{Refused}
+use Rattle.places.specs.Limits.{room}
+use Rattle.places.specs.Runs.{Meaning, refuses, names, enters}
+use Rattle.places.specs.Result.{Result, refusing, done}
+use Rattle.places.specs.Head.{short, modulesOf, keptOf}
+use Rattle.picture.specs.Hearing.{enteredBytes, naming, entering, hearingAs, hearingAt, hearing}
+use Rattle.picture.specs.Stepping.{backOver, steppingBack}
 use Rattle.history.specs.Standing.{hear, back}
-use Rattle.picture.specs.Result.{Result, refusing, done}
-use Rattle.picture.specs.Runs.{Run, noRun, runOf, typeEntered}
-use Rattle.picture.specs.Bytes.{short, modulesOf, keptOf, nextOf, before, slotOf, kindIn, toldBytes, enteredBytes, exchangedBytes, naming, entering, hearingCommand, hearingMessage, hearingReading, hearingAt, hearing, backOver, steppingBack}
 use Rattle.history.specs.Demand3.{doing, RefusedKeeps}
 
 abbrev Keeps : List ℕ → Result → Type 0
@@ -32,34 +30,23 @@ module _ (b : List ℕ) where
   either-keeps true x y h k = h
   either-keeps false x y h k = k
 
-  entering-keeps : (s a kind t : ℕ) (r : Run) → Keeps b (entering b s a kind t r)
-  unfolding entering
-  entering-keeps s a kind t r =
-      either-keeps (ltb s room) (done (cond (eqb kind t) (toldBytes b s r) (exchangedBytes b s a t r)))
-      (cond (ltb (modulesOf b) room) (done (enteredBytes b a t r)) (refusing noRoom b))
-      (done-keeps (cond (eqb kind t) (toldBytes b s r) (exchangedBytes b s a t r)))
+  means-keeps : (s a kind : ℕ) (m : Meaning) → Keeps b (hearingAs b s a kind m)
+  unfolding hearingAs entering
+  means-keeps s a kind (refuses n) = refusing-keeps n
+  means-keeps s a kind (names r) = done-keeps (naming b s r)
+  means-keeps s a kind (enters t r) =
+      either-keeps (ltb s room) (done _) (cond (ltb (modulesOf b) room) (done (enteredBytes b a t r)) (refusing noRoom b)) (done-keeps _)
       (either-keeps (ltb (modulesOf b) room) (done (enteredBytes b a t r)) (refusing noRoom b) (done-keeps (enteredBytes b a t r)) (refusing-keeps noRoom))
-
-  reading-keeps : (s a kind : ℕ) (rd : Reading) → Keeps b (hearingReading b s a kind rd)
-  unfolding hearingReading hearingMessage hearingCommand
-  reading-keeps s a kind (reading-of.Refused n) = refusing-keeps n
-  reading-keeps s a kind (reading-of.Read x TypeRequest) = done-keeps (naming b s noRun)
-  reading-keeps s a kind (reading-of.Read x (Tells m)) =
-      either-keeps (eqb (typeEntered m) 0) (done (naming b s (runOf kind m))) (entering b s a kind (typeEntered m) (runOf kind m))
-      (done-keeps (naming b s (runOf kind m))) (entering-keeps s a kind (typeEntered m) (runOf kind m))
 
   back-keeps : Keeps b (steppingBack b)
   unfolding steppingBack
   back-keeps =
-      either-keeps (short b) (refusing tooShort b) (cond (eqb (keptOf b) 0) (refusing nothingKept b) (done (backOver b (before (nextOf b))))) (refusing-keeps tooShort)
-      (either-keeps (eqb (keptOf b) 0) (refusing nothingKept b) (done (backOver b (before (nextOf b)))) (refusing-keeps nothingKept) (done-keeps (backOver b (before (nextOf b)))))
+      either-keeps (short b) (refusing tooShort b) (cond (eqb (keptOf b) 0) (refusing nothingKept b) (done (backOver b))) (refusing-keeps tooShort)
+      (either-keeps (eqb (keptOf b) 0) (refusing nothingKept b) (done (backOver b)) (refusing-keeps nothingKept) (done-keeps (backOver b)))
 
   hearing-keeps : (identifier remote : ℕ) (bytes : List ℕ) → Keeps b (hearing b identifier remote bytes)
   unfolding hearing hearingAt
-  hearing-keeps identifier remote bytes =
-      either-keeps (short b) (refusing tooShort b) (hearingAt b (slotOf b (busAddress identifier)) identifier remote bytes) (refusing-keeps tooShort)
-      (reading-keeps (slotOf b (busAddress identifier)) (busAddress identifier) (kindIn b (slotOf b (busAddress identifier)))
-      (reading (kindIn b (slotOf b (busAddress identifier))) identifier remote bytes))
+  hearing-keeps identifier remote bytes = either-keeps (short b) (refusing tooShort b) _ (refusing-keeps tooShort) (means-keeps _ _ _ _)
 
 pub refused-keeps : RefusedKeeps
 unfolding doing

@@ -8,35 +8,35 @@ use mathlib.Core.Logic.{_≢_}
 use mathlib.Core.List.{List, _∷_}
 use lib.ListN.{length, set, take}
 use lib.Seq.{getD-set-same, getD-set-other}
-use Rattle.picture.specs.Limits.{depth}
-use Rattle.picture.specs.Bytes.{before, following}
+use Rattle.places.specs.Limits.{ring}
+use Rattle.places.specs.Head.{before, following}
 use Rattle.history.specs.Machine.{Undo, same}
 use Rattle.history.specs.Refinement.{entries}
 
 -- a store m that lies j places after n is not among the k entries before n
-skip : (k j n m : ℕ) (ring : List Undo) (u : Undo) → n < depth → m ≡ (n + j) % depth → j + k < depth → entries (set ring m u) n k ≡ entries ring n k
+skip : (k j n m : ℕ) (us : List Undo) (u : Undo) → n < ring → m ≡ (n + j) % ring → j + k < ring → entries (set us m u) n k ≡ entries us n k
 unfolding entries
-skip zero j n m ring u l e h = refl
-skip (suc k) j n m ring u l e h =
+skip zero j n m us u l e h = refl
+skip (suc k) j n m us u l e h =
     let apart : before n ≢ m = omega arith in
-    let next : m ≡ (before n + suc j) % depth = omega arith in
-    rw (getD-set-other ring m (before n) u same apart, skip k (suc j) (before n) m ring u (omega arith) next (omega arith))
+    let next : m ≡ (before n + suc j) % ring = omega arith in
+    rw (getD-set-other us m (before n) u same apart, skip k (suc j) (before n) m us u (omega arith) next (omega arith))
 
-take-entries : (j k n : ℕ) (ring : List Undo) → take j (entries ring n k) ≡ entries ring n (min j k)
+take-entries : (j k n : ℕ) (us : List Undo) → take j (entries us n k) ≡ entries us n (min j k)
 unfolding entries
-take-entries zero k n ring = rw zero-min
-take-entries (suc j) zero n ring = rw min-zero
-take-entries (suc j) (suc k) n ring = rw (suc-min-suc, take-entries j k (before n) ring)
+take-entries zero k n us = rw zero-min
+take-entries (suc j) zero n us = rw min-zero
+take-entries (suc j) (suc k) n us = rw (suc-min-suc, take-entries j k (before n) us)
 
-pub push : (d k n : ℕ) (ring : List Undo) (u : Undo) → d ≤ depth → n < depth → length ring ≡ depth
-    → entries (set ring n u) (following n) (min d (suc k)) ≡ take d (u ∷ entries ring n k)
+pub push : (d k n : ℕ) (us : List Undo) (u : Undo) → d ≤ ring → n < ring → length us ≡ ring
+    → entries (set us n u) (following n) (min d (suc k)) ≡ take d (u ∷ entries us n k)
 unfolding entries
-push zero k n ring u hd hn hr = rw zero-min
-push (suc d) k n ring u hd hn hr =
+push zero k n us u hd hn hr = rw zero-min
+push (suc d) k n us u hd hn hr =
     let here : before (following n) ≡ n = omega arith in
-    rw (suc-min-suc, here, getD-set-same ring n u same (omega arith), skip (min d k) 0 n n ring u hn (omega arith) (omega arith), take-entries d k n ring)
+    rw (suc-min-suc, here, getD-set-same us n u same (omega arith), skip (min d k) 0 n n us u hn (omega arith) (omega arith), take-entries d k n us)
 
-pub length-entries : (ring : List Undo) (n k : ℕ) → length (entries ring n k) ≡ k
+pub length-entries : (us : List Undo) (n k : ℕ) → length (entries us n k) ≡ k
 unfolding entries
-length-entries ring n zero = refl
-length-entries ring n (suc k) = ap suc (length-entries ring (before n) k)
+length-entries us n zero = refl
+length-entries us n (suc k) = ap suc (length-entries us (before n) k)

@@ -8,9 +8,9 @@ use mathlib.Core.Option.{Option, none, some}
 use lib.Dec.{eqb}
 use lib.ListN.{length, getD, set, length-replicate, getD-replicate, length-append, length-set}
 use borrow.Author.Tests.{eqb-true, eq-eqb}
-use Rattle.picture.specs.Places.{places}
-use Rattle.picture.specs.Runs.{Run, said, sayings}
-use Rattle.history.specs.Standing.{Frame, address, Meaning, names, enters, meaning, typed, typeOf, unknown, after, gave, latest, more, listed}
+use Rattle.places.specs.Places.{places}
+use Rattle.places.specs.Runs.{Run, saidFrom, Meaning, names, enters}
+use Rattle.history.specs.Standing.{Frame, address, meaning, typed, typeOf, unknown, after, gave, latest, more, listed}
 use Rattle.history.specs.Machine.{Module, blank, find, slot, kindOf, told-by, new}
 use Rattle.history.proofs.Rows.{write-length, write-at}
 use Rattle.history.proofs.Modules.{find-address, find-set, find-append}
@@ -19,7 +19,7 @@ use Rattle.history.proofs.Modules.{find-address, find-set, find-append}
 pub record Fits (m : Module) (S : List Frame) (a : ℕ) : Type 0 where
   pub kind-is : typeOf S a ≡ some (m .kind)
   pub long : length (m .places) ≡ places
-  pub holds : (p : ℕ) → p < places → getD (m .places) p unknown ≡ latest S a p
+  pub holds : (p : ℕ) → p < places → getD (m .places) p none ≡ some (latest S a p)
 
 abbrev pub At : Option Module → List Frame → ℕ → Type 0
 At none S a = typeOf S a ≡ none
@@ -34,13 +34,13 @@ kind-at none S a h = sym h
 kind-at (some m) S a h = sym (h .kind-is)
 
 -- a new module's row of places, opened in these two alone
-pub blank-length : length blank ≡ places
+blank-length : length blank ≡ places
 unfolding blank
-blank-length = length-replicate places unknown
+blank-length = length-replicate places (some unknown)
 
-pub blank-at : (p : ℕ) → p < places → getD blank p unknown ≡ unknown
+blank-at : (p : ℕ) → p < places → getD blank p none ≡ some unknown
 unfolding blank
-blank-at p l = getD-replicate places p unknown unknown l
+blank-at p l = getD-replicate places p (some unknown) none l
 
 -- What a frame changes at its own address, and that it changes nothing at another.
 module _ (f : Frame) (S : List Frame) where
@@ -63,7 +63,7 @@ module _ (f : Frame) (S : List Frame) where
   at-other : (x : Option Module) (b : ℕ) → eqb (address f) b ≡ false → At x S b → At x (f ∷ S) b
   at-other none b e h = other-type b e ∙ h
   at-other (some m) b e h =
-      record { kind-is = other-type b e ∙ h .kind-is; long = h .long; holds = λ p l. h .holds p l ∙ sym (other-latest b p e) }
+      record { kind-is = other-type b e ∙ h .kind-is; long = h .long; holds = λ p l. h .holds p l ∙ ap some (sym (other-latest b p e)) }
 
   -- a module changed or entered at the frame's address
   changed : (ms ms′ : List Module) (m′ : Module) → ((b : ℕ) → find ms′ b ≡ cond (eqb (address f) b) (some m′) (find ms b)) → ((b : ℕ) → At (find ms b) S b)
@@ -79,8 +79,8 @@ module _ (f : Frame) (S : List Frame) where
   fits-told r m e h =
       record {
         kind-is = here-type (names r) e ∙ h .kind-is;
-        long = write-length (m .places) (r .start) (sayings r) ∙ h .long;
-        holds = λ p l. write-at (m .places) (r .start) (sayings r) p (rw (h .long) l) ∙ ap (after (said r p)) (h .holds p l) ∙ sym (here-latest (names r) p e);
+        long = write-length (m .places) (r .start) (r .says) ∙ h .long;
+        holds = λ p l. write-at (m .places) (r .start) (r .says) p (latest S (address f) p) (rw (h .long) l) (h .holds p l) ∙ ap some (sym (here-latest (names r) p e));
       }
 
   fits-new : (k : ℕ) (r : Run) → meaning (typeOf S (address f)) f ≡ enters k r → Fits (new (address f) k r) (f ∷ S) (address f)
@@ -88,8 +88,8 @@ module _ (f : Frame) (S : List Frame) where
   fits-new k r e =
       record {
         kind-is = here-type (enters k r) e;
-        long = write-length blank (r .start) (sayings r) ∙ blank-length;
-        holds = λ p l. write-at blank (r .start) (sayings r) p (rw blank-length l) ∙ ap (after (said r p)) (blank-at p l) ∙ sym (here-latest (enters k r) p e);
+        long = write-length blank (r .start) (r .says) ∙ blank-length;
+        holds = λ p l. write-at blank (r .start) (r .says) p unknown (rw blank-length l) (blank-at p l) ∙ ap some (sym (here-latest (enters k r) p e));
       }
 
   listed-names : (r : Run) → meaning (typeOf S (address f)) f ≡ names r → listed (f ∷ S) ≡ listed S
@@ -111,14 +111,30 @@ module _ (f : Frame) (S : List Frame) where
   some-here : (ms : List Module) (m : Module) → find ms (address f) ≡ some m → Shows ms S → Fits m S (address f)
   some-here ms m x s = rw x at (s .each (address f))
 
-  -- the four ways in which an accepted frame goes
-  pub shows-same : (ms : List Module) (r : Run) → find ms (address f) ≡ none → meaning (typeOf S (address f)) f ≡ names r → Shows ms S → Shows ms (f ∷ S)
-  unfolding typed
-  shows-same ms r x e s = record { count = s .count ∙ sym (listed-names r e); each = λ b. go b (eqb (address f) b) refl }
+  -- the ways in which an accepted frame goes
+  shows-same : (ms : List Module) (r : Run) → meaning (typeOf S (address f)) f ≡ names r → At (find ms (address f)) (f ∷ S) (address f) → Shows ms S → Shows ms (f ∷ S)
+  shows-same ms r e here s = record { count = s .count ∙ sym (listed-names r e); each = λ b. go b (eqb (address f) b) refl }
     where
       go : (b : ℕ) (c : Bool) → eqb (address f) b ≡ c → At (find ms b) (f ∷ S) b
-      go b true t = subst (λ (y : ℕ). At (find ms y) (f ∷ S) y) (eqb-true (address f) b t) (rw x (here-type (names r) e ∙ none-here ms x s))
+      go b true t = subst (λ (y : ℕ). At (find ms y) (f ∷ S) y) (eqb-true (address f) b t) here
       go b false t = at-other (find ms b) b t (s .each b)
+
+  -- no module, and a run of no place
+  pub shows-nobody : (ms : List Module) (r : Run) → find ms (address f) ≡ none → meaning (typeOf S (address f)) f ≡ names r → Shows ms S → Shows ms (f ∷ S)
+  unfolding typed
+  shows-nobody ms r x e s = shows-same ms r e (rw x (here-type (names r) e ∙ none-here ms x s)) s
+
+  pub shows-nothing : (ms : List Module) (r : Run) (m : Module) → r .says ≡ [] → find ms (address f) ≡ some m → meaning (typeOf S (address f)) f ≡ names r → Shows ms S → Shows ms (f ∷ S)
+  unfolding typed gave after saidFrom
+  shows-nothing ms r m q x e s =
+      let h = some-here ms m x s in
+      let here : Fits m (f ∷ S) (address f) =
+      record {
+        kind-is = here-type (names r) e ∙ h .kind-is;
+        long = h .long;
+        holds = λ p l. h .holds p l ∙ ap some (sym (here-latest (names r) p e ∙ rw q));
+      } in
+      shows-same ms r e (rw x here) s
 
   pub shows-told : (ms : List Module) (r : Run) (m : Module) → find ms (address f) ≡ some m → meaning (typeOf S (address f)) f ≡ names r → Shows ms S
       → Shows (set ms (slot ms (address f)) (told-by r m)) (f ∷ S)

@@ -1,29 +1,32 @@
 -- Rows of bytes stored, copied, blanked and written: what stands where afterwards, and that no other byte changes. Assumes nothing.
 use Prim.Native.Nat.{ℕ, zero, suc, _+_, _*_, _<_, _≤_}
 use native.Mathlib.Omega.{arith}
-use mathlib.Core.Path.{_≡_, refl, sym, _∙_}
+use native.Mathlib.Nat.{zero-add}
+use mathlib.Core.Path.{_≡_, refl, _∙_}
 use mathlib.Core.Bool.{Bool, true, false}
 use mathlib.Core.Logic.{_≢_}
 use mathlib.Core.List.{List, [], _∷_}
+use mathlib.Core.Option.{none, some}
 use lib.Dec.{eqb}
 use lib.ListN.{getD, set, length, length-set}
-use lib.Seq.{getD-set-same, getD-set-other, set-getD}
+use lib.Seq.{getD-set-same, getD-set-other}
 use borrow.Author.Tests.{eqb-true, eqb-false}
 use Rattle.laws.specs.Tab.{tab}
-use Rattle.laws.proofs.Tab.{getD-tab, tab-set}
-use Rattle.picture.specs.Layout.{placeAt}
-use Rattle.picture.specs.Runs.{Saying, silent, asks, tells}
-use Rattle.history.specs.Standing.{Known, unknown, after}
-use Rattle.picture.specs.Bytes.{pair, putAt, written, blanked, stored, copyOne, copied, zeroed}
-use Rattle.history.specs.Machine.{put, write}
-use Rattle.history.specs.Refinement.{knownOf, knownAt}
+use Rattle.laws.proofs.Tab.{tab-set}
+use Rattle.places.specs.Layout.{placeAt}
+use Rattle.places.specs.Runs.{Saying, silent, asks, tells}
+use Rattle.picture.specs.Stores.{pair, putAt, written, blanked, stored, copied, zeroed}
+use Rattle.questions.specs.Fills.{filledTo}
+use Rattle.history.specs.Standing.{unknown}
+use Rattle.history.specs.Machine.{Cell, put, write}
+use Rattle.history.specs.Refinement.{cellOf, cellAt}
 
 -- The bytes from lo up to hi may have changed, and no other.
 pub record Within (lo hi : ℕ) (b c : List ℕ) : Type 0 where
   pub outside : (o : ℕ) → (lo ≤ o → o < hi → ⊥) → getD c o 0 ≡ getD b o 0
   pub long : length c ≡ length b
 
-pub within-none : {lo hi : ℕ} {b : List ℕ} → Within lo hi b b
+within-none : {lo hi : ℕ} {b : List ℕ} → Within lo hi b b
 within-none = record { outside = λ o n. refl; long = refl }
 
 pub within-wider : {lo hi lo′ hi′ : ℕ} {b c : List ℕ} → lo′ ≤ lo → hi ≤ hi′ → Within lo hi b c → Within lo′ hi′ b c
@@ -35,76 +38,65 @@ within-then v w = record { outside = λ o n. w .outside o n ∙ v .outside o n; 
 pub within-set : (b : List ℕ) (o v : ℕ) → Within o (suc o) b (set b o v)
 within-set b o v = record { outside = λ i n. getD-set-other b o i v 0 (λ e. n (omega arith) (omega arith)); long = length-set b o v }
 
-pub within-pair : (b : List ℕ) (o v t : ℕ) → Within o (o + 2) b (pair b o v t)
+within-pair : (b : List ℕ) (o v t : ℕ) → Within o (o + 2) b (pair b o v t)
 within-pair b o v t =
     within-then (within-wider (omega arith) (omega arith) (within-set b o v)) (within-wider (omega arith) (omega arith) (within-set (set b o v) (o + 1) t))
 
--- a row stored
-pub within-stored : (b : List ℕ) (o : ℕ) (row : List ℕ) (n : ℕ) → Within o (o + n) b (stored b o row n)
+-- Bytes laid one after the other from o on: g n is what n of them leave, and v i is the i-th.
+pub record Lays (g : ℕ → List ℕ) (b : List ℕ) (o : ℕ) (v : ℕ → ℕ) : Type 0 where
+  pub at-first : g 0 ≡ b
+  pub one-more : (n : ℕ) → g (suc n) ≡ set (g n) (o + n) (v n)
+
+module _ {g : ℕ → List ℕ} {b : List ℕ} {o : ℕ} {v : ℕ → ℕ} (lays : Lays g b o v) where
+  pub laid-within : (n : ℕ) → Within o (o + n) b (g n)
+  laid-within zero = rw (lays .at-first) within-none
+  laid-within (suc n) =
+      rw (lays .one-more n)
+      (within-then (within-wider (omega arith) (omega arith) (laid-within n)) (within-wider (omega arith) (omega arith) (within-set (g n) (o + n) (v n))))
+
+  pub laid-at : (n j : ℕ) → j < n → o + n ≤ length b → getD (g n) (o + j) 0 ≡ v j
+  laid-at zero j h l = absurd (omega arith)
+  laid-at (suc n) j h l = rw (lays .one-more n) (go (eqb j n) refl (λ k. laid-at n j k (omega arith)))
+    where
+      go : (c : Bool) → eqb j n ≡ c → (j < n → getD (g n) (o + j) 0 ≡ v j) → getD (set (g n) (o + n) (v n)) (o + j) 0 ≡ v j
+      go true e ih = rw (eqb-true j n e) (getD-set-same (g n) (o + n) (v n) 0 (rw (laid-within n .long) (omega arith)))
+      go false e ih = let d : j ≢ n = eqb-false j n e in getD-set-other (g n) (o + n) (o + j) (v n) 0 (omega arith) ∙ ih (omega arith)
+
+-- a row stored, the first bytes made 0, a buffer filled
+pub stored-lays : (b : List ℕ) (o : ℕ) (row : List ℕ) → Lays (stored b o row) b o (λ n. getD row n 0)
 unfolding stored
-within-stored b o row zero = within-none
-within-stored b o row (suc n) =
-    within-then (within-wider (omega arith) (omega arith) (within-stored b o row n)) (within-wider (omega arith) (omega arith) (within-set (stored b o row n) (o + n) (getD row n 0)))
+stored-lays b o row = record { at-first = refl; one-more = λ n. refl }
 
-pub stored-at : (b : List ℕ) (o : ℕ) (row : List ℕ) (n j : ℕ) → j < n → o + n ≤ length b → getD (stored b o row n) (o + j) 0 ≡ getD row j 0
-unfolding stored
-stored-at b o row zero j h l = absurd (omega arith)
-stored-at b o row (suc n) j h l = go (eqb j n) refl (λ k. stored-at b o row n j k (omega arith))
-  where
-    go : (c : Bool) → eqb j n ≡ c → (j < n → getD (stored b o row n) (o + j) 0 ≡ getD row j 0) → getD (set (stored b o row n) (o + n) (getD row n 0)) (o + j) 0 ≡ getD row j 0
-    go true e ih =
-        let q : j ≡ n = eqb-true j n e in
-        rw q (getD-set-same (stored b o row n) (o + n) (getD row n 0) 0 (rw (within-stored b o row n .long) (omega arith)))
-    go false e ih =
-        let d : j ≢ n = eqb-false j n e in
-        getD-set-other (stored b o row n) (o + n) (o + j) (getD row n 0) 0 (omega arith) ∙ ih (omega arith)
-
--- bytes copied to where they do not overlap
-pub within-copied : (b : List ℕ) (to from n : ℕ) → Within to (to + n) b (copied b to from n)
-unfolding copied
-within-copied b to from zero = within-none
-within-copied b to from (suc n) =
-    within-then (within-wider (omega arith) (omega arith) (within-copied b to from n)) (within-wider (omega arith) (omega arith) (within-set (copied b to from n) (to + n) _))
-
-pub copied-at : (b : List ℕ) (to from n j : ℕ) → ((i : ℕ) → i < n → to ≤ from + i → from + i < to + n → ⊥) → j < n → to + n ≤ length b → getD (copied b to from n) (to + j) 0 ≡ getD b (from + j) 0
-unfolding copied
-copied-at b to from zero j apart h l = absurd (omega arith)
-copied-at b to from (suc n) j apart h l =
-    go (eqb j n) refl (λ k. copied-at b to from n j (λ i m p q. apart i (omega arith) p (omega arith)) k (omega arith))
-  where
-    go : (c : Bool) → eqb j n ≡ c → (j < n → getD (copied b to from n) (to + j) 0 ≡ getD b (from + j) 0) → getD (copyOne (copied b to from n) (to + n) (from + n)) (to + j) 0 ≡ getD b (from + j) 0
-    go true e ih =
-        let q : j ≡ n = eqb-true j n e in
-        rw q
-        (getD-set-same (copied b to from n) (to + n) _ 0 (rw (within-copied b to from n .long) (omega arith))
-        ∙ within-copied b to from n .outside (from + n) (λ p r. apart n (omega arith) p (omega arith)))
-    go false e ih =
-        let d : j ≢ n = eqb-false j n e in
-        getD-set-other (copied b to from n) (to + n) (to + j) _ 0 (omega arith) ∙ ih (omega arith)
-
--- the first bytes made 0
-pub within-zeroed : (b : List ℕ) (n : ℕ) → Within 0 n b (zeroed b n)
+pub zeroed-lays : (b : List ℕ) → Lays (zeroed b) b 0 (λ n. 0)
 unfolding zeroed
-within-zeroed b zero = within-none
-within-zeroed b (suc n) = within-then (within-wider (omega arith) (omega arith) (within-zeroed b n)) (within-wider (omega arith) (omega arith) (within-set (zeroed b n) n 0))
+zeroed-lays b = record { at-first = refl; one-more = λ n. rw zero-add }
 
-pub zeroed-at : (b : List ℕ) (n j : ℕ) → j < n → n ≤ length b → getD (zeroed b n) j 0 ≡ 0
-unfolding zeroed
-zeroed-at b zero j h l = absurd (omega arith)
-zeroed-at b (suc n) j h l = go (eqb j n) refl (λ k. zeroed-at b n j k (omega arith))
-  where
-    go : (c : Bool) → eqb j n ≡ c → (j < n → getD (zeroed b n) j 0 ≡ 0) → getD (set (zeroed b n) n 0) j 0 ≡ 0
-    go true e ih = rw (eqb-true j n e) (getD-set-same (zeroed b n) n 0 0 (rw (within-zeroed b n .long) (omega arith)))
-    go false e ih = let d : j ≢ n = eqb-false j n e in getD-set-other (zeroed b n) n j 0 0 d ∙ ih (omega arith)
+pub filled-lays : (f : ℕ → ℕ) (out : List ℕ) → Lays (filledTo f out) out 0 f
+unfolding filledTo
+filled-lays f out = record { at-first = refl; one-more = λ n. rw zero-add }
+
+-- bytes copied, to where they do not overlap
+pub copied-lays : (b : List ℕ) (to from : ℕ) → Lays (copied b to from) b to (λ n. getD (copied b to from n) (from + n) 0)
+unfolding copied
+copied-lays b to from = record { at-first = refl; one-more = λ n. refl }
+
+pub copied-at : (b : List ℕ) (to from n j : ℕ) → ((i : ℕ) → i < n → to ≤ from + i → from + i < to + n → ⊥) → j < n → to + n ≤ length b
+    → getD (copied b to from n) (to + j) 0 ≡ getD b (from + j) 0
+copied-at b to from n j apart h l =
+    laid-at (copied-lays b to from) n j h l ∙ laid-within (copied-lays b to from) j .outside (from + j) (λ p q. apart j h p (omega arith))
+
+-- no byte is both from lo up to hi and from `from` up to `to`
+abbrev pub Apart : ℕ → ℕ → ℕ → ℕ → Type 0
+Apart lo hi from to = (o : ℕ) → from ≤ o → o < to → lo ≤ o → o < hi → ⊥
 
 -- the two bytes of a place
-pub known-outside : {lo hi : ℕ} {b c : List ℕ} → Within lo hi b c → (o : ℕ) → (lo ≤ o + 1 → o < hi → ⊥) → knownAt c o ≡ knownAt b o
-unfolding knownAt
-known-outside w o n = rw (w .outside o (λ p q. n (omega arith) q), w .outside (o + 1) (λ p q. n p (omega arith)))
+pub cell-outside : {lo hi : ℕ} {b c : List ℕ} → Within lo hi b c → (o : ℕ) → Apart lo hi o (o + 2) → cellAt c o ≡ cellAt b o
+unfolding cellAt
+cell-outside w o n = rw (w .outside o (n o (omega arith) (omega arith)), w .outside (o + 1) (n (o + 1) (omega arith) (omega arith)))
 
-pub pair-known : (b : List ℕ) (o v t : ℕ) → o + 1 < length b → knownAt (pair b o v t) o ≡ knownOf v t
-unfolding knownAt
-pair-known b o v t h =
+pair-cell : (b : List ℕ) (o v t : ℕ) → o + 1 < length b → cellAt (pair b o v t) o ≡ cellOf v t
+unfolding cellAt
+pair-cell b o v t h =
     let d : o ≢ o + 1 = omega arith in
     let l : o + 1 < length (set b o v) = rw length-set h in
     let k : o < length b = omega arith in
@@ -115,48 +107,40 @@ pub within-blanked : (b : List ℕ) (o n : ℕ) → Within o (o + 2 * n) b (blan
 unfolding blanked
 within-blanked b o zero = within-none
 within-blanked b o (suc n) =
-    within-then (within-wider (omega arith) (omega arith) (within-blanked b o n)) (within-wider (omega arith) (omega arith) (within-pair (blanked b o n) (o + 2 * n) 0 0))
+    within-then (within-wider (omega arith) (omega arith) (within-blanked b o n)) (within-wider (omega arith) (omega arith) (within-pair (blanked b o n) (o + 2 * n) 0 1))
 
-pub blanked-known : (b : List ℕ) (o n j : ℕ) → j < n → o + 2 * n ≤ length b → knownAt (blanked b o n) (o + 2 * j) ≡ unknown
+pub blanked-cell : (b : List ℕ) (o n j : ℕ) → j < n → o + 2 * n ≤ length b → cellAt (blanked b o n) (o + 2 * j) ≡ some unknown
 unfolding blanked
-blanked-known b o zero j h l = absurd (omega arith)
-blanked-known b o (suc n) j h l = go (eqb j n) refl (λ k. blanked-known b o n j k (omega arith))
+blanked-cell b o zero j h l = absurd (omega arith)
+blanked-cell b o (suc n) j h l = go (eqb j n) refl (λ k. blanked-cell b o n j k (omega arith))
   where
-    go : (c : Bool) → eqb j n ≡ c → (j < n → knownAt (blanked b o n) (o + 2 * j) ≡ unknown) → knownAt (pair (blanked b o n) (o + 2 * n) 0 0) (o + 2 * j) ≡ unknown
-    go true e ih = rw (eqb-true j n e) (pair-known (blanked b o n) (o + 2 * n) 0 0 (rw (within-blanked b o n .long) (omega arith)))
+    go : (c : Bool) → eqb j n ≡ c → (j < n → cellAt (blanked b o n) (o + 2 * j) ≡ some unknown) → cellAt (pair (blanked b o n) (o + 2 * n) 0 1) (o + 2 * j) ≡ some unknown
+    go true e ih = rw (eqb-true j n e) (pair-cell (blanked b o n) (o + 2 * n) 0 1 (rw (within-blanked b o n .long) (omega arith)))
     go false e ih =
         let d : j ≢ n = eqb-false j n e in
-        known-outside (within-pair (blanked b o n) (o + 2 * n) 0 0) (o + 2 * j) (λ p q. omega arith) ∙ ih (omega arith)
+        cell-outside (within-pair (blanked b o n) (o + 2 * n) 0 1) (o + 2 * j) (λ x p q f g. omega arith) ∙ ih (omega arith)
 
 -- one place told, asked for or left alone
-pub within-put : (b : List ℕ) (o : ℕ) (x : Saying) → Within o (o + 2) b (putAt b o x)
+within-put : (b : List ℕ) (o : ℕ) (x : Saying) → Within o (o + 2) b (putAt b o x)
 unfolding putAt
 within-put b o silent = within-none
-within-put b o asks = within-pair b o 0 0
-within-put b o (tells v) = within-pair b o v 1
-
-put-known : (b : List ℕ) (o : ℕ) (x : Saying) → o + 1 < length b → knownAt (putAt b o x) o ≡ after x (knownAt b o)
-unfolding putAt after
-put-known b o silent h = refl
-put-known b o asks h = pair-known b o 0 0 h
-put-known b o (tells v) h = pair-known b o v 1 h
-
-put-is-set : (l : List Known) (i : ℕ) (x : Saying) → put l i x ≡ set l i (after x (getD l i unknown))
-unfolding put after
-put-is-set l i silent = sym (set-getD l i unknown)
-put-is-set l i asks = refl
-put-is-set l i (tells v) = refl
+within-put b o asks = within-pair b o 0 1
+within-put b o (tells v) = within-pair b o v 0
 
 -- the row of the first n places of the record in slot s
-abbrev pub row : List ℕ → ℕ → ℕ → List Known
-row b s n = tab n (λ p. knownAt b (placeAt s p))
+abbrev pub row : List ℕ → ℕ → ℕ → List Cell
+row b s n = tab n (λ p. cellAt b (placeAt s p))
+
+pair-row : (b : List ℕ) (s n i v t : ℕ) → placeAt s i + 1 < length b → row (pair b (placeAt s i) v t) s n ≡ set (row b s n) i (cellOf v t)
+pair-row b s n i v t h =
+    tab-set n (λ p. cellAt b (placeAt s p)) (λ p. cellAt (pair b (placeAt s i) v t) (placeAt s p)) i (cellOf v t) none (λ l. pair-cell b (placeAt s i) v t h)
+    (λ j l d. cell-outside (within-pair b (placeAt s i) v t) (placeAt s j) (λ x p q f g. omega arith))
 
 put-row : (b : List ℕ) (s n i : ℕ) (x : Saying) → placeAt s i + 1 < length b → row (putAt b (placeAt s i) x) s n ≡ put (row b s n) i x
-put-row b s n i x h =
-    rw (put-is-set (row b s n) i x)
-    (tab-set n _ _ i _ unknown
-    (λ l. rw (getD-tab n (λ p. knownAt b (placeAt s p)) i unknown l) (put-known b (placeAt s i) x h))
-    (λ j l d. known-outside (within-put b (placeAt s i) x) (placeAt s j) (λ p q. omega arith)))
+unfolding putAt put
+put-row b s n i silent h = refl
+put-row b s n i asks h = pair-row b s n i 0 1 h
+put-row b s n i (tells v) h = pair-row b s n i v 0 h
 
 -- a run
 pub within-written : (b : List ℕ) (o : ℕ) (xs : List Saying) → Within o (o + 2 * length xs) b (written b o xs)

@@ -1,62 +1,54 @@
--- A run heard: the bytes after it are those of the machine's state after it. Assumes nothing.
-use Prim.Native.Nat.{ℕ, zero, suc, _+_, _*_, _/_, _%_, _<_, _≤_, min}
+-- A run heard: the bytes that it writes, and the log's entry, which keeps what lay there, are those of the machine. Assumes nothing.
+use Prim.Native.Nat.{ℕ, zero, suc, _+_, _-_, _*_, _<_, _≤_}
 use native.Mathlib.Omega.{arith}
 use native.Mathlib.Nat.{add-zero}
-use mathlib.Core.Path.{_≡_, refl, ap, _∙_}
-use mathlib.Core.Bool.{true}
-use mathlib.Core.List.{List, [], _∷_}
-use lib.ListN.{getD, set, length}
-use borrow.Author.Tests.{lt-ltb, le-leb}
+use mathlib.Core.Path.{_≡_, refl, sym, ap, _∙_}
+use mathlib.Core.Bool.{Bool, true, false, cond}
+use mathlib.Core.List.{List, _∷_}
+use mathlib.Core.Option.{none}
+use lib.Dec.{ltb}
+use lib.ListN.{getD, set, length, List·getD-eq-default}
+use borrow.Author.Tests.{ltb-true, ltb-false, lt-ltb, le-leb, eq-eqb}
 use Rattle.laws.specs.Tab.{tab}
-use Rattle.laws.proofs.Tab.{getD-tab, tab-ext, tab-set}
-use Rattle.picture.specs.Layout.{countAt, keptAt, nextAt, slotAt, recordSize, recordAt, kindAt, placeAt, entrySize, entryHead, entryAt, oldAt, size}
-use Rattle.picture.specs.Places.{places}
-use Rattle.picture.specs.Runs.{Run, Saying, sayings, sayingsFrom}
-use Rattle.picture.specs.Limits.{room}
-use Rattle.history.specs.Standing.{Known, unknown}
-use Rattle.picture.specs.Bytes.{modulesOf, nextOf, written, didWrite, entryBytes, opened, countOf, saved, toldBytes, fits}
-use Rattle.history.specs.Machine.{nobody, wrote, olds, told-by, logged}
-use Rattle.history.specs.Refinement.{knownAt, moduleAt, undoAt, stateOf, Good}
-use Rattle.history.proofs.Stores.{Within, within-then, within-wider, within-stored, stored-at, within-copied, copied-at, within-written, row, written-row}
-use Rattle.history.proofs.Parts.{module-apart, undo-apart, modules-few, next-small, modules-by, kept-by, next-by, within-stepped, logged-log, state-is, good-still}
+use Rattle.laws.proofs.Tab.{length-tab, getD-tab, tab-ext}
+use Rattle.places.specs.Limits.{room, mostPlaces}
+use Rattle.places.specs.Places.{places}
+use Rattle.places.specs.Runs.{Run}
+use Rattle.places.specs.Fitting.{endOf}
+use Rattle.places.specs.Layout.{recordSize, recordAt, kindAt, placeAt, ringAt, entrySize, oldSize, oldAt, offsetAt, size}
+use Rattle.places.specs.Head.{nextOf}
+use Rattle.picture.specs.Stores.{written, copied}
+use Rattle.picture.specs.Log.{saved}
+use Rattle.history.specs.Machine.{Cell, Module, wrote, oldsFrom, olds, told-by}
+use Rattle.history.specs.Refinement.{recordOf, placeOf, cellAt, moduleAt, oldCell, wroteAt, undoAt, stateOf, Good}
+use Rattle.history.proofs.Stores.{Within, within-then, within-wider, laid-within, copied-lays, copied-at, within-written, row, written-row}
+use Rattle.history.proofs.Parts.{module-apart, next-small, good-within, record-changed, logs-still, Does}
+use Rattle.history.proofs.Noted.{within-offset, offset-is, does-entry}
 
--- a run has as many sayings as it counts, at most eight
-sayings-from : (says values : List ℕ) (i n : ℕ) → length (sayingsFrom says values i n) ≡ n
-unfolding sayingsFrom
-sayings-from says values i zero = refl
-sayings-from says values i (suc n) = ap suc (sayings-from says values (i + 1) n)
+-- a row of places, by each place
+pub row-at : (b : List ℕ) (s n p : ℕ) → getD (row b s n) p none ≡ cond (ltb p n) (cellAt b (placeAt s p)) none
+row-at b s n p = go (ltb p n) refl
+  where
+    go : (c : Bool) → ltb p n ≡ c → getD (row b s n) p none ≡ cond c (cellAt b (placeAt s p)) none
+    go true e = getD-tab n (λ p. cellAt b (placeAt s p)) p none (ltb-true p n e)
+    go false e = List·getD-eq-default (row b s n) none (rw length-tab (ltb-false p n e))
 
-pub sayings-length : (r : Run) → length (sayings r) ≡ countOf r
-unfolding sayings
-sayings-length r = sayings-from (r .says) (r .values) 0 (min 8 (r .count))
-
--- the old contents of a run's places
-olds-tab : (b : List ℕ) (s n i : ℕ) (xs : List Saying) → i + length xs ≤ n → olds (row b s n) i xs ≡ tab (length xs) (λ j. knownAt b (placeAt s (i + j)))
-unfolding olds tab
-olds-tab b s n i [] h = refl
-olds-tab b s n i (x ∷ xs) h =
-    rw (getD-tab n (λ p. knownAt b (placeAt s p)) i unknown (omega arith), add-zero i, olds-tab b s n (suc i) xs (omega arith))
-    (ap {B = List Known} (λ l. knownAt b (placeAt s i) ∷ l)
-    (tab-ext (length xs) (λ j. knownAt b (placeAt s (suc i + j))) (λ j. knownAt b (placeAt s (i + suc j)))
-    (λ j l. let e : suc i + j ≡ i + suc j = omega arith in rw e)))
-
--- a log entry begun
-module _ (b : List ℕ) (what s start count : ℕ) (whole : size ≤ length b) where
-  pub within-opened : Within (entryAt (nextOf b)) (entryAt (nextOf b) + entryHead) b (opened b what s start count)
-  unfolding opened
-  within-opened = within-stored b (entryAt (nextOf b)) (entryBytes what s start count) entryHead
-
-  pub opened-at : (o j : ℕ) → o ≡ entryAt (nextOf b) + j → j < entryHead → getD (opened b what s start count) o 0 ≡ getD (entryBytes what s start count) j 0
-  unfolding opened
-  opened-at o j q h = rw q (stored-at b (entryAt (nextOf b)) (entryBytes what s start count) entryHead j h (omega (arith, next-small b)))
+-- the old contents, by each place
+olds-tab : (l : List Cell) (i n : ℕ) → oldsFrom l i n ≡ tab n (λ j. getD l (i + j) none)
+unfolding oldsFrom tab
+olds-tab l i zero = refl
+olds-tab l i (suc n) =
+    rw (add-zero i, olds-tab l (suc i) n)
+    (ap {B = List Cell} (λ k. getD l i none ∷ k)
+    (tab-ext n (λ j. getD l (suc i + j) none) (λ j. getD l (i + suc j) none) (λ j h. let e : suc i + j ≡ i + suc j = omega arith in rw e)))
 
 -- a run written into a record
-module _ (c : List ℕ) (s : ℕ) (r : Run) (whole : size ≤ length c) (slot-ok : s < room) (fit : r .start + countOf r ≤ places) where
+module _ (c : List ℕ) (s : ℕ) (r : Run) (whole : size ≤ length c) (slot-ok : s < room) (fit : endOf r ≤ places) where
   abbrev told : List ℕ
-  told = written c (placeAt s (r .start)) (sayings r)
+  told = written c (placeAt s (r .start)) (r .says)
 
   pub within-told : Within (placeAt s 0) (recordAt s + recordSize) c told
-  within-told = within-wider (omega arith) (omega (arith, sayings-length r)) (within-written c (placeAt s (r .start)) (sayings r))
+  within-told = within-wider (omega arith) (omega arith) (within-written c (placeAt s (r .start)) (r .says))
 
   pub told-module : moduleAt told s ≡ told-by r (moduleAt c s)
   unfolding moduleAt told-by
@@ -64,129 +56,77 @@ module _ (c : List ℕ) (s : ℕ) (r : Run) (whole : size ≤ length c) (slot-ok
       rw (
         within-told .outside (recordAt s) (λ p q. omega arith),
         within-told .outside (kindAt s) (λ p q. omega arith),
-        written-row c s places (r .start) (sayings r) (omega (arith, sayings-length r)),
+        written-row c s places (r .start) (r .says) (omega arith),
       )
 
--- a run heard
-module _ (b : List ℕ) (s : ℕ) (r : Run) (good : Good b) (slot-ok : s < room) (fit : r .start + countOf r ≤ places) where
+-- eight places kept in the next entry
+module _ (b : List ℕ) (s start : ℕ) (good : Good b) (slot-ok : s < room) (begins : start < places) where
   abbrev e : ℕ
   e = nextOf b
 
-  abbrev begun : List ℕ
-  begun = opened b didWrite s (r .start) (countOf r)
+  abbrev copy : List ℕ
+  copy = copied b (oldAt e) (placeAt s start) oldSize
 
-  within-begun : Within (entryAt e) (entryAt e + entryHead) b begun
-  within-begun = within-opened b didWrite s (r .start) (countOf r) (good .whole)
+  within-copy : Within (oldAt e) (oldAt e + oldSize) b copy
+  within-copy = laid-within (copied-lays b (oldAt e) (placeAt s start)) oldSize
 
-  within-olds : Within (oldAt e) (oldAt e + 2 * countOf r) begun (saved b s r)
+  whole-copy : size ≤ length copy
+  whole-copy = rw (within-copy .long) (good .whole)
+
+  within-last : Within (offsetAt e) (offsetAt e + 4) copy (saved b s start)
   unfolding saved
-  within-olds = within-copied begun (oldAt e) (placeAt s (r .start)) (2 * countOf r)
+  within-last = within-offset copy e (placeAt s start) whole-copy (next-small b)
 
-  pub within-saved : Within (entryAt e) (entryAt e + entrySize) b (saved b s r)
-  within-saved =
-      within-then (within-wider (omega arith) (omega arith) within-begun) (within-wider (omega arith) (omega arith) within-olds)
+  within-saved : Within (oldAt e) (oldAt e + entrySize) b (saved b s start)
+  within-saved = within-then (within-wider (omega arith) (omega arith) within-copy) (within-wider (omega arith) (omega arith) within-last)
 
-  -- the entry's bytes
-  head-byte : (o j : ℕ) → o ≡ entryAt e + j → j < entryHead → getD (saved b s r) o 0 ≡ getD (entryBytes didWrite s (r .start) (countOf r)) j 0
-  head-byte o j q h =
-      within-olds .outside o (λ p m. omega arith) ∙ opened-at b didWrite s (r .start) (countOf r) (good .whole) o j q h
-
-  old-byte : (o k : ℕ) → o ≡ oldAt e + k → k < 2 * countOf r → getD (saved b s r) o 0 ≡ getD b (placeAt s (r .start) + k) 0
-  unfolding saved
+  old-byte : (o k : ℕ) → o ≡ oldAt e + k → k < oldSize → getD (saved b s start) o 0 ≡ getD b (placeAt s start + k) 0
   old-byte o k q h =
-      rw q
-      (copied-at begun (oldAt e) (placeAt s (r .start)) (2 * countOf r) k (λ i l p m. omega (arith, next-small b)) h (omega (arith, next-small b, within-begun .long, good .whole))
-      ∙ within-begun .outside (placeAt s (r .start) + k) (λ p m. omega (arith, next-small b)))
+      within-last .outside o (λ p m. omega arith)
+      ∙ rw q (copied-at b (oldAt e) (placeAt s start) oldSize k (λ i l p m. omega (arith, next-small b)) h (omega (arith, next-small b, good .whole)))
 
-  old-known : (i : ℕ) → i < countOf r → knownAt (saved b s r) (oldAt e + 2 * i) ≡ knownAt b (placeAt s (r .start + i))
-  unfolding knownAt
-  old-known i l =
-      let p : placeAt s (r .start) + 2 * i ≡ placeAt s (r .start + i) = omega arith in
-      let q : placeAt s (r .start) + (2 * i + 1) ≡ placeAt s (r .start + i) + 1 = omega arith in
+  old-cell : (i : ℕ) → i < mostPlaces → cellAt (saved b s start) (oldAt e + 2 * i) ≡ cellAt b (placeAt s (start + i))
+  unfolding cellAt
+  old-cell i l =
+      let p : placeAt s start + 2 * i ≡ placeAt s (start + i) = omega arith in
+      let q : placeAt s start + (2 * i + 1) ≡ placeAt s (start + i) + 1 = omega arith in
       rw (old-byte (oldAt e + 2 * i) (2 * i) refl (omega arith), old-byte (oldAt e + 2 * i + 1) (2 * i + 1) (omega arith) (omega arith), p, q)
 
-  ok : fits s (r .start) (countOf r) ≡ true
-  unfolding fits
-  ok = rw (lt-ltb s room slot-ok, le-leb (r .start + countOf r) places fit)
+  old-cells : tab mostPlaces (oldCell (saved b s start) e start) ≡ olds (moduleAt b s .places) start
+  unfolding moduleAt
+  old-cells =
+      tab-ext mostPlaces (oldCell (saved b s start) e start) (λ j. getD (row b s places) (start + j) none)
+      (λ i l. ap (λ (x : Cell). cond (ltb (start + i) places) x none) (old-cell i l) ∙ sym (row-at b s places (start + i)))
+      ∙ sym (olds-tab (row b s places) start mostPlaces)
 
-  pub saved-undo : undoAt (saved b s r) e ≡ wrote s (r .start) (olds (moduleAt b s .places) (r .start) (sayings r))
-  unfolding undoAt moduleAt
-  saved-undo =
-      let at-0 : getD (saved b s r) (entryAt e) 0 ≡ didWrite = head-byte (entryAt e) 0 (omega arith) (omega arith) in
-      let at-1 : getD (saved b s r) (entryAt e + 1) 0 ≡ s = head-byte (entryAt e + 1) 1 (omega arith) (omega arith) in
-      let at-2 : getD (saved b s r) (entryAt e + 2) 0 ≡ r .start % 256 = head-byte (entryAt e + 2) 2 (omega arith) (omega arith) in
-      let at-3 : getD (saved b s r) (entryAt e + 3) 0 ≡ r .start / 256 % 256 = head-byte (entryAt e + 3) 3 (omega arith) (omega arith) in
-      let at-4 : getD (saved b s r) (entryAt e + 4) 0 ≡ countOf r = head-byte (entryAt e + 4) 4 (omega arith) (omega arith) in
-      let start : r .start % 256 + 256 * (r .start / 256 % 256) ≡ r .start = omega arith in
-      let count : min 8 (countOf r) ≡ countOf r = omega arith in
-      rw (
-        at-0,
-        at-1,
-        at-2,
-        at-3,
-        at-4,
-        start,
-        count,
-        ok,
-        olds-tab b s places (r .start) (sayings r) (omega (arith, sayings-length r)),
-        sayings-length r,
-        tab-ext (countOf r) (λ i. knownAt (saved b s r) (oldAt e + 2 * i)) (λ i. knownAt b (placeAt s (r .start + i))) old-known,
-      )
+  wrote-is : wroteAt (saved b s start) e (placeAt s start) ≡ wrote s start (olds (moduleAt b s .places) start)
+  unfolding wroteAt
+  wrote-is =
+      let record-is : recordOf (placeAt s start) ≡ s = omega arith in
+      let place-is : placeOf (placeAt s start) ≡ start = omega arith in
+      rw (record-is, place-is, eq-eqb (placeAt s start) (placeAt s start) refl, lt-ltb start places begins, old-cells)
 
-  whole-saved : size ≤ length (saved b s r)
-  whole-saved = rw (within-saved .long) (good .whole)
+  does-saved : Does b (saved b s start) (wrote s start (olds (moduleAt b s .places) start)) (stateOf b .modules)
+  unfolding undoAt saved
+  does-saved =
+      does-entry b (saved b s start) _ good within-saved
+      (rw (offset-is copy e (placeAt s start) whole-copy (next-small b) (omega arith), le-leb (placeAt s start) (ringAt - oldSize) (omega arith)) wrote-is)
 
-  -- the run written, before the step is counted
-  abbrev wrote-it : List ℕ
-  wrote-it = written (saved b s r) (placeAt s (r .start)) (sayings r)
+  saved-module : moduleAt (saved b s start) s ≡ moduleAt b s
+  saved-module = module-apart within-saved s (λ o p q m n. omega arith)
 
-  within-run : Within (placeAt s 0) (recordAt s + recordSize) (saved b s r) wrote-it
-  within-run = within-told (saved b s r) s r whole-saved slot-ok fit
-
-  whole-written : size ≤ length wrote-it
-  whole-written = rw (within-run .long) whole-saved
-
-  head-still : (o : ℕ) → o < recordAt 0 → getD wrote-it o 0 ≡ getD b o 0
-  head-still o h = within-run .outside o (λ p q. omega arith) ∙ within-saved .outside o (λ p q. omega arith)
-
-  address-still : (j : ℕ) → j < room → getD wrote-it (recordAt j) 0 ≡ getD b (recordAt j) 0
-  address-still j h = within-run .outside (recordAt j) (λ p q. omega arith) ∙ within-saved .outside (recordAt j) (λ p q. omega arith)
-
-  step-low : (o : ℕ) → (keptAt ≤ o → o < nextAt + 1 → ⊥) → getD (toldBytes b s r) o 0 ≡ getD wrote-it o 0
-  unfolding toldBytes
-  step-low o n = within-stepped wrote-it whole-written .outside o n
-
-  told-count : modulesOf (toldBytes b s r) ≡ modulesOf b
-  told-count = modules-by b (toldBytes b s r) (step-low countAt (λ p q. omega arith) ∙ head-still countAt (omega arith))
-
-  pub told-good : Good (toldBytes b s r)
-  unfolding toldBytes
-  told-good =
-      good-still b (toldBytes b s r) good (within-stepped wrote-it whole-written .long ∙ within-run .long ∙ within-saved .long) (rw told-count (omega arith))
-      (λ j h. step-low (recordAt j) (λ p q. omega arith) ∙ address-still j h)
-      (λ a h. step-low (slotAt a) (λ p q. omega arith) ∙ head-still (slotAt a) (omega arith))
-
-  saved-module : (j : ℕ) → j < room → moduleAt (saved b s r) j ≡ moduleAt b j
-  saved-module j h = module-apart within-saved j (λ o p q m n. omega arith)
-
-  stepped-module : (j : ℕ) → moduleAt (toldBytes b s r) j ≡ moduleAt wrote-it j
-  unfolding toldBytes
-  stepped-module j = module-apart (within-stepped wrote-it whole-written) j (λ o p q m n. omega arith)
-
-  told-modules : tab (modulesOf (toldBytes b s r)) (moduleAt (toldBytes b s r)) ≡ set (tab (modulesOf b) (moduleAt b)) s (told-by r (moduleAt b s))
-  told-modules =
-      rw told-count
-      (tab-set (modulesOf b) (moduleAt b) (moduleAt (toldBytes b s r)) s _ nobody
-      (λ l. stepped-module s ∙ told-module (saved b s r) s r whole-saved slot-ok fit ∙ ap (told-by r) (saved-module s slot-ok))
-      (λ j l d. stepped-module j ∙ module-apart within-run j (λ o p q m n. omega arith) ∙ saved-module j (omega (arith, modules-few b))))
-
-  pub told-state : stateOf (toldBytes b s r)
-      ≡ logged (set (stateOf b .modules) s (told-by r (moduleAt b s))) (wrote s (r .start) (olds (moduleAt b s .places) (r .start) (sayings r))) (stateOf b .log) .state
-  unfolding stateOf logged toldBytes
-  told-state =
-      state-is (toldBytes b s r) _ _ told-modules
-      (logged-log b wrote-it (wrote s (r .start) (olds (moduleAt b s .places) (r .start) (sayings r))) whole-written
-      (kept-by b wrote-it (head-still keptAt (omega arith)))
-      (next-by b wrote-it (head-still nextAt (omega arith)))
-      (undo-apart within-run e (λ o p q m n. omega arith) ∙ saved-undo)
-      (λ x l d. undo-apart within-run x (λ o p q m n. omega arith) ∙ undo-apart within-saved x (λ o p q m n. omega arith)))
+-- the record alone changed after it
+module _ (b : List ℕ) (s : ℕ) (r : Run) (good : Good b) (slot-ok : s < room) (begins : r .start < places) (fit : endOf r ≤ places) where
+  pub does-told : Does b (written (saved b s (r .start)) (placeAt s (r .start)) (r .says)) (wrote s (r .start) (olds (moduleAt b s .places) (r .start)))
+      (set (stateOf b .modules) s (told-by r (moduleAt b s)))
+  does-told =
+      let d = does-saved b s (r .start) good slot-ok begins in
+      let w = within-told (saved b s (r .start)) s r (d .good .whole) slot-ok fit in
+      record {
+        good = good-within w (λ p q. omega arith) (λ a l p q. omega arith) (λ j l p q. omega arith) (d .good);
+        logs = logs-still w (λ p q. omega arith) (omega arith) (d .logs);
+        modules-are =
+            record-changed s (told-by r (moduleAt b s)) (within-wider (omega arith) (omega arith) w)
+            (λ l. told-module (saved b s (r .start)) s r (d .good .whole) slot-ok fit ∙ ap (told-by r) (saved-module b s (r .start) good slot-ok begins))
+            ∙ ap (λ (ms : List Module). set ms s (told-by r (moduleAt b s))) (d .modules-are);
+      }

@@ -4,18 +4,18 @@ use mathlib.Core.List.{List, [], _∷_, map, reverse}
 use mathlib.Core.Path.{_≡_}
 use lib.ListN.{length}
 use Rattle.laws.specs.Refusals.{noSuchPlace}
-use Rattle.picture.specs.declared.Answer.{Answer}
-use Rattle.picture.specs.declared.Answer.the-variants.{Value, Refused}
-use Rattle.picture.specs.Places.{Asked, year, cell, led, blind}
+use Rattle.places.specs.declared.answers.Answer.{Answer}
+use Rattle.places.specs.declared.answers.Answer.the-variants.{Value, Refused}
+use Rattle.places.specs.Layout.{size}
+use Rattle.questions.specs.Question.{Question, Reply, build-year, cell, led, blind}
+use Rattle.questions.specs.Replies.{reply}
 use Rattle.history.specs.Standing.{Event, hear, back, standing, typeOf, latest}
-use Rattle.picture.specs.Layout.{size}
-use Rattle.history.specs.Asked.{toldNumber}
-use Rattle.picture.specs.Questions.{numberAnswer}
+use Rattle.history.specs.Asked.{toldReply}
 use Rattle.history.specs.Demand3.{runBytes}
 
 -- the address of the module; frames of low and of high priority from it
-abbrev pub bench : ℕ
-bench = 0x2A
+abbrev pub example : ℕ
+example = 0x2A
 
 abbrev pub low : List ℕ → Event
 low bytes = hear (record { identifier = 1620; remote = 0; bytes = bytes })
@@ -31,23 +31,23 @@ abbrev pub bl : Event
 bl = low (0xFF ∷ 0x03 ∷ 0x00 ∷ 0x0C ∷ 0x05 ∷ [])
 
 -- what the standing frames tell after the events
-abbrev pub toldAfter : List Event → Asked → Answer
-toldAfter es q = toldNumber (typeOf (standing (reverse es)) bench) q (latest (standing (reverse es)) bench)
+abbrev pub toldTo : List Event → Question → List ℕ → Reply
+toldTo es q out = toldReply (typeOf (standing (reverse es)) example) (latest (standing (reverse es)) example) q out
 
 pub record Case : Type 0 where
   pub events : List Event
-  pub asked : Asked
+  pub asked : Question
   pub answer : Answer
 
-abbrev pub case : List Event → Asked → Answer → Case
+abbrev pub case : List Event → Question → Answer → Case
 case es q x = record { events = es; asked = q; answer = x }
 
 abbrev pub ask : Case → Answer
-ask c = toldAfter (c .events) (c .asked)
+ask c = toldTo (c .events) (c .asked) [] .answer
 
 abbrev pub cases : List Case
 cases =
-    case (ir ∷ []) year (Value 0x0C)
+    case (ir ∷ []) build-year (Value 0x0C)
     -- an unread cell is neither 0 nor H'FF'
     ∷ case (ir ∷ []) (cell 5) (Value 256)
     -- the LEDs with a one, and no other
@@ -69,4 +69,4 @@ cases =
 pub record Worked : Type 0 where
   pub numbers : map ask cases ≡ map (λ (c : Case). c .answer) cases
   -- and so are they by the bytes, from any fresh picture
-  pub by-bytes : (b : List ℕ) → size ≤ length b → (c : Case) → numberAnswer (runBytes b (reverse (c .events))) bench (c .asked) ≡ ask c
+  pub by-bytes : (b : List ℕ) → size ≤ length b → (c : Case) → reply (runBytes b (reverse (c .events))) example (c .asked) [] .answer ≡ ask c

@@ -4,18 +4,21 @@
 use Prim.Native.Nat.{ℕ, zero, suc, _+_, _<_, _≤_}
 use mathlib.Core.Path.{_≡_}
 use mathlib.Core.List.{List, [], _∷_, reverse}
-use mathlib.Core.Option.{Option, some}
+use mathlib.Core.Option.{Option, none, some}
 use lib.ListN.{length, getD}
-use Rattle.picture.specs.declared.Answer.the-variants.{Value}
-use Rattle.picture.specs.declared.Outcome.the-variants.{Refused}
-use Rattle.picture.specs.Layout.{size}
-use Rattle.picture.specs.Places.{places, Asked}
-use Rattle.picture.specs.Limits.{addresses}
-use Rattle.history.specs.Standing.{Frame, Known, unknown, typeOf, latest, listed, Event, hear, back, standing, kept, answered, outcomeOf}
-use Rattle.picture.specs.Result.{Result}
-use Rattle.history.specs.Asked.{yesIf, toldType, toldNumber, toldListed, toldHeard, toldName, toldMemory, toldMemoryBytes}
-use Rattle.picture.specs.Bytes.{hearing, steppingBack, freshening}
-use Rattle.picture.specs.Questions.{keptAnswer, typeAnswer, numberAnswer, listing, nameHeard, nameWhole, memoryRow, memoryBytes}
+use Rattle.places.specs.declared.answers.Answer.the-variants.{Value}
+use Rattle.places.specs.declared.answers.Outcome.the-variants.{Refused}
+use Rattle.places.specs.Limits.{addresses}
+use Rattle.places.specs.Places.{places}
+use Rattle.places.specs.Result.{Result}
+use Rattle.places.specs.Layout.{size}
+use Rattle.picture.specs.Hearing.{hearing}
+use Rattle.picture.specs.Stepping.{steppingBack}
+use Rattle.picture.specs.Fresh.{freshening}
+use Rattle.questions.specs.Question.{Question}
+use Rattle.questions.specs.Replies.{reply, keptAnswer, listing}
+use Rattle.history.specs.Standing.{Frame, Known, typeOf, latest, listed, Event, hear, back, standing, kept, answered, outcomeOf}
+use Rattle.history.specs.Asked.{yesIf, toldReply, toldListed}
 use Rattle.history.specs.Machine.{Module, run, step, find, kindOf}
 
 -- ---- the machine
@@ -25,7 +28,7 @@ pub record Agrees (h : List Event) : Type 0 where
   -- which addresses are listed, and with which type
   pub type-at : (a : ℕ) → kindOf (find (run h .modules) a) ≡ typeOf (standing h) a
   -- every place of every module
-  pub place-at : (a : ℕ) (m : Module) → find (run h .modules) a ≡ some m → (p : ℕ) → p < places → getD (m .places) p unknown ≡ latest (standing h) a p
+  pub place-at : (a : ℕ) (m : Module) → find (run h .modules) a ≡ some m → (p : ℕ) → p < places → getD (m .places) p none ≡ some (latest (standing h) a p)
   -- the room taken
   pub taken : length (run h .modules) ≡ listed (standing h)
   -- the answer to whatever comes next
@@ -61,14 +64,9 @@ runsBytes b (e ∷ es) = runsBytes (doing e b .buffer) es
 abbrev pub InOrder : Type 0
 InOrder = (b : List ℕ) (es : List Event) → runsBytes (freshening b .buffer) es ≡ runBytes b (reverse es)
 
--- Every question on the address a is answered as the type t and what is known of each place tell.
-pub record Tells (b : List ℕ) (a : ℕ) (t : Option ℕ) (known : ℕ → Known) : Type 0 where
-  pub type-of : typeAnswer b a ≡ toldType t
-  pub number : (q : Asked) → numberAnswer b a q ≡ toldNumber t q known
-  pub heard : (name : ℕ) (out : List ℕ) → nameHeard b a name out ≡ toldHeard t name known out
-  pub name-of : (name : ℕ) (out : List ℕ) → nameWhole b a name out ≡ toldName t name known out
-  pub memory : (out : List ℕ) → memoryRow b a out ≡ toldMemory t known out
-  pub memory-bytes : (out : List ℕ) → memoryBytes b a out ≡ toldMemoryBytes t known out
+-- Every question on the address a, with any lent buffer, is answered as the type t and what is known of each place tell.
+abbrev pub Tells : List ℕ → ℕ → Option ℕ → (ℕ → Known) → Type 0
+Tells b a t known = (q : Question) (out : List ℕ) → reply b a q out ≡ toldReply t known q out
 
 -- every question, and the answer to every next event
 pub record Answers (b : List ℕ) (h : List Event) : Type 0 where

@@ -7,29 +7,23 @@ use mathlib.Core.Option.{Option, none, some}
 use lib.ListN.{length}
 use Rattle.laws.specs.Refusals.{noRoom}
 use Rattle.frame.specs.Identifiers.{addressOf}
-use Rattle.frame.specs.Rows.{noType}
+use Rattle.frame.specs.Types.{noType}
 use Rattle.frame.specs.Reading.{reading}
 use Rattle.frame.specs.declared.messages.Command.{Command}
 use Rattle.frame.specs.declared.messages.Message.the-variants as message
 use Rattle.frame.specs.declared.reader.Reading.the-variants.{Read}
-use Rattle.picture.specs.declared.Outcome.the-variants.{Done, Refused}
-use Rattle.picture.specs.Layout.{size}
-use Rattle.picture.specs.Places.{Asked}
-use Rattle.picture.specs.Runs.{Run, said, runOf, typeEntered}
-use Rattle.picture.specs.Fitting.{heardAs}
-use Rattle.picture.specs.Limits.{room}
-use Rattle.history.specs.Standing.{Frame, address, Meaning, refuses, names, enters, meaning, Known, unknown, after, typeOf, latest, listed, accepted, judgement, Event, hear, back, standing, kept}
-use Rattle.picture.specs.Questions.{typeAnswer, numberAnswer, listing, nameHeard, nameWhole, memoryRow, memoryBytes}
+use Rattle.places.specs.declared.answers.Outcome.the-variants.{Done, Refused}
+use Rattle.places.specs.Limits.{room}
+use Rattle.places.specs.Runs.{Run, said, Meaning, refuses, names, enters, meaningOf}
+use Rattle.places.specs.Layout.{size}
+use Rattle.questions.specs.Question.{Question}
+use Rattle.questions.specs.Replies.{reply, listing}
+use Rattle.history.specs.Standing.{Frame, address, sense, meaning, Known, unknown, after, typeOf, latest, listed, accepted, judgement, Event, hear, back, standing, kept}
 use Rattle.history.specs.Demand3.{doing, runBytes, Tells}
 
--- Every question on the address a is answered alike.
-pub record Alike (b c : List ℕ) (a : ℕ) : Type 0 where
-  pub type-of : typeAnswer b a ≡ typeAnswer c a
-  pub number : (q : Asked) → numberAnswer b a q ≡ numberAnswer c a q
-  pub heard : (name : ℕ) (out : List ℕ) → nameHeard b a name out ≡ nameHeard c a name out
-  pub name-of : (name : ℕ) (out : List ℕ) → nameWhole b a name out ≡ nameWhole c a name out
-  pub memory : (out : List ℕ) → memoryRow b a out ≡ memoryRow c a out
-  pub memory-bytes : (out : List ℕ) → memoryBytes b a out ≡ memoryBytes c a out
+-- Every question on the address a, with any lent buffer, is answered alike.
+abbrev pub Alike : List ℕ → List ℕ → ℕ → Type 0
+Alike b c a = (q : Question) (out : List ℕ) → reply b a q out ≡ reply c a q out
 
 -- What the bytes then tell of the frame's own address, by what the frame means: each place that it names holds what it says, and every other place
 -- what it held; an entry begins with every place unknown.
@@ -59,21 +53,22 @@ Reads kind f m = reading kind (f .identifier) (f .remote) (f .bytes) ≡ Read (a
 -- a command at a listed module, also FF of the module's own type: the places of its run, and no other, hold what it says
 abbrev pub HearsCommand : Type 0
 HearsCommand =
-    (b : List ℕ) → size ≤ length b → (h : List Event) (f : Frame) (kind : ℕ) (m : Command) → typeOf (standing h) (address f) ≡ some kind → Reads kind f m
-    → heardAs kind m ≡ kind → HeardAs b h f (some kind) (λ p. after (said (runOf kind m) p) (latest (standing h) (address f) p))
+    (b : List ℕ) → size ≤ length b → (h : List Event) (f : Frame) (kind : ℕ) (m : Command) (r : Run) → typeOf (standing h) (address f) ≡ some kind
+    → Reads kind f m → sense (some kind) (meaningOf kind m) ≡ names r
+    → HeardAs b h f (some kind) (λ p. after (said r p) (latest (standing h) (address f) p))
 
 -- FF at an unlisted address while there is room: a module with nothing known but its build
 abbrev pub HearsEntry : Type 0
 HearsEntry =
-    (b : List ℕ) → size ≤ length b → (h : List Event) (f : Frame) (m : Command) → typeOf (standing h) (address f) ≡ none → Reads noType f m
-    → 0 < typeEntered m → listed (standing h) < room → HeardAs b h f (some (typeEntered m)) (λ p. after (said (runOf noType m) p) unknown)
+    (b : List ℕ) → size ≤ length b → (h : List Event) (f : Frame) (m : Command) (k : ℕ) (r : Run) → typeOf (standing h) (address f) ≡ none
+    → Reads noType f m → meaningOf noType m ≡ enters k r → listed (standing h) < room → HeardAs b h f (some k) (λ p. after (said r p) unknown)
 
 -- FF of another type at a listed module: likewise, and no step back is kept
 abbrev pub HearsExchange : Type 0
 HearsExchange =
-    (b : List ℕ) → size ≤ length b → (h : List Event) (f : Frame) (kind : ℕ) (m : Command) → typeOf (standing h) (address f) ≡ some kind → Reads kind f m
-    → 0 < typeEntered m → typeEntered m ≢ kind
-    → HeardAs b h f (some (typeEntered m)) (λ p. after (said (runOf kind m) p) unknown) × (kept (hear f ∷ h) ≡ 0)
+    (b : List ℕ) → size ≤ length b → (h : List Event) (f : Frame) (kind : ℕ) (m : Command) (k : ℕ) (r : Run) → typeOf (standing h) (address f) ≡ some kind
+    → Reads kind f m → meaningOf kind m ≡ enters k r → k ≢ kind
+    → HeardAs b h f (some k) (λ p. after (said r p) unknown) × (kept (hear f ∷ h) ≡ 0)
 
 -- A step back over an accepted frame (no exchange): every question is answered as before the frame.
 pub record SameAnswers (b c : List ℕ) : Type 0 where

@@ -1,4 +1,5 @@
--- Read in this order: Standing and Asked (what a reader must believe), Demand3, Effects, Speaks, Cases (the statements); Machine and Refinement are steps of the proof.
+-- Read in this order: Standing and Asked (what a reader must believe), then the statements, Demand3, Effects, Speaks and Cases. Machine and Refinement are
+-- steps of the proof of Demand3, which no reader has to believe.
 pub mod Standing
 pub mod Asked
 pub mod Machine

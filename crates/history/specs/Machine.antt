@@ -1,4 +1,5 @@
--- What the code does, without bytes: modules in order of entry, and a log of what each step changed, latest first. Assumes nothing.
+-- A STEP OF A PROOF, which no promise cites: what the code does, without bytes. Modules in order of entry, and a log of what each step changed, latest
+-- first. Assumes nothing.
 use Prim.Native.Nat.{ℕ, zero, suc}
 use mathlib.Core.Bool.{cond}
 use mathlib.Core.List.{List, [], _∷_, _++_}
@@ -6,21 +7,27 @@ use mathlib.Core.Option.{Option, none, some}
 use lib.Dec.{eqb, ltb}
 use lib.ListN.{length, getD, set, take, replicate}
 use Rattle.laws.specs.Refusals.{noRoom, nothingKept}
-use Rattle.picture.specs.Places.{places}
-use Rattle.picture.specs.Runs.{Run, Saying, silent, asks, tells, sayings}
-use Rattle.picture.specs.Limits.{room, depth}
-use Rattle.history.specs.Standing.{address, Meaning, refuses, names, enters, meaning, Known, unknown, told, Judgement, refused, accepted, exchanged, Event, hear, back}
+use Rattle.places.specs.Limits.{room, depth, mostPlaces}
+use Rattle.places.specs.Places.{places}
+use Rattle.places.specs.Runs.{Run, Saying, silent, asks, tells, Meaning, refuses, names, enters}
+use Rattle.history.specs.Standing.{address, meaning, Known, unknown, told, Judgement, refused, accepted, exchanged, Event, hear, back}
+
+-- What a place holds: what is known of it; none for bytes that no run leaves.
+abbrev pub Cell : Type 0
+Cell = Option Known
 
 pub record Module : Type 0 where
   pub address : ℕ
   pub kind : ℕ
-  pub places : List Known
+  pub places : List Cell
 
--- What undoes a step: nothing, the last module goes, or a row of places of the module in a slot gets its old contents.
+-- What undoes a step: nothing, the last module goes, or a row of places of the module in a slot gets its old contents; lost stands for bytes that no run
+-- leaves.
 pub data Undo : Type 0 where
   same : Undo
   entered : Undo
-  wrote : ℕ → ℕ → List Known → Undo
+  wrote : ℕ → ℕ → List Cell → Undo
+  lost : Undo
 
 pub record State : Type 0 where
   pub modules : List Module
@@ -46,36 +53,39 @@ abbrev pub kindOf : Option Module → Option ℕ
 kindOf none = none
 kindOf (some m) = some (m .kind)
 
--- A run written into a row of places, the row's old contents there, and these put back.
-unfoldable pub put : List Known → ℕ → Saying → List Known
+-- A run written into a row of places, eight of the row's old contents from a place on, and these put back.
+unfoldable pub put : List Cell → ℕ → Saying → List Cell
 put l i silent = l
-put l i asks = set l i unknown
-put l i (tells v) = set l i (told v)
+put l i asks = set l i (some unknown)
+put l i (tells v) = set l i (some (told v))
 
-unfoldable pub write : List Known → ℕ → List Saying → List Known
+unfoldable pub write : List Cell → ℕ → List Saying → List Cell
 write l i [] = l
 write l i (x ∷ xs) = write (put l i x) (suc i) xs
 
-unfoldable pub olds : List Known → ℕ → List Saying → List Known
-olds l i [] = []
-olds l i (x ∷ xs) = getD l i unknown ∷ olds l (suc i) xs
+unfoldable pub oldsFrom : List Cell → ℕ → ℕ → List Cell
+oldsFrom l i zero = []
+oldsFrom l i (suc n) = getD l i none ∷ oldsFrom l (suc i) n
 
-unfoldable pub restore : List Known → ℕ → List Known → List Known
+abbrev pub olds : List Cell → ℕ → List Cell
+olds l i = oldsFrom l i mostPlaces
+
+unfoldable pub restore : List Cell → ℕ → List Cell → List Cell
 restore l i [] = l
 restore l i (o ∷ os) = set (restore l (suc i) os) i o
 
 unfoldable pub told-by : Run → Module → Module
-told-by r m = record { address = m .address; kind = m .kind; places = write (m .places) (r .start) (sayings r) }
+told-by r m = record { address = m .address; kind = m .kind; places = write (m .places) (r .start) (r .says) }
 
-unfoldable pub restored : ℕ → List Known → Module → Module
+unfoldable pub restored : ℕ → List Cell → Module → Module
 restored i os m = record { address = m .address; kind = m .kind; places = restore (m .places) i os }
 
 -- A new module: every place unknown, then the build.
-unfoldable pub blank : List Known
-blank = replicate places unknown
+unfoldable pub blank : List Cell
+blank = replicate places (some unknown)
 
 unfoldable pub new : ℕ → ℕ → Run → Module
-new a k r = record { address = a; kind = k; places = write blank (r .start) (sayings r) }
+new a k r = record { address = a; kind = k; places = write blank (r .start) (r .says) }
 
 abbrev pub nobody : Module
 nobody = record { address = 0; kind = 0; places = [] }
@@ -89,6 +99,7 @@ unfoldable pub undo : Undo → List Module → List Module
 undo same ms = ms
 undo entered ms = butLast ms
 undo (wrote s i os) ms = set ms s (restored i os (getD ms s nobody))
+undo lost ms = ms
 
 -- A step that is logged: the oldest entry goes where the log is full.
 unfoldable pub logged : List Module → Undo → List Undo → Step
@@ -97,11 +108,15 @@ logged ms u log = record { state = record { modules = ms; log = take depth (u �
 unfoldable pub kept-as : State → ℕ → Step
 kept-as s n = record { state = s; answer = refused n }
 
+-- A run heard by the module m in slot i; one of no place has no effect.
+unfoldable pub told-in : List Saying → ℕ → Run → Module → State → Step
+told-in [] i r m s = logged (s .modules) same (s .log)
+told-in (x ∷ xs) i r m s = logged (set (s .modules) i (told-by r m)) (wrote i (r .start) (olds (m .places) (r .start))) (s .log)
+
 unfoldable pub hears : Option Module → ℕ → Meaning → State → Step
 hears x a (refuses n) s = kept-as s n
 hears none a (names r) s = logged (s .modules) same (s .log)
-hears (some m) a (names r) s =
-    logged (set (s .modules) (slot (s .modules) a) (told-by r m)) (wrote (slot (s .modules) a) (r .start) (olds (m .places) (r .start) (sayings r))) (s .log)
+hears (some m) a (names r) s = told-in (r .says) (slot (s .modules) a) r m s
 hears none a (enters k r) s =
     cond (ltb (length (s .modules)) room) (logged (s .modules ++ (new a k r ∷ [])) entered (s .log)) (kept-as s noRoom)
 hears (some m) a (enters k r) s =
@@ -119,8 +134,3 @@ step back s = backs (s .modules) (s .log)
 unfoldable pub run : List Event → State
 run [] = fresh
 run (e ∷ h) = step e (run h) .state
-
--- What is known of a place of the module found.
-unfoldable pub knownIn : Option Module → ℕ → Known
-knownIn none p = unknown
-knownIn (some m) p = getD (m .places) p unknown

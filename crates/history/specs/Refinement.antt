@@ -1,61 +1,86 @@
--- The machine's state that the bytes hold, and the statement that one step on the bytes is one step of the machine. The proof is proofs/Steps.antt.
-use Prim.Native.Nat.{ℕ, zero, suc, _+_, _*_, _<_, _≤_}
+-- A STEP OF A PROOF, which no promise cites: the machine's state that the bytes hold, and the statement that one step on the bytes is one step of the
+-- machine. The proof is proofs/Steps.antt.
+use Prim.Native.Nat.{ℕ, zero, suc, _+_, _-_, _*_, _/_, _%_, _<_, _≤_}
 use mathlib.Core.Path.{_≡_}
-use mathlib.Core.Bool.{Bool, true, false}
+use mathlib.Core.Bool.{Bool, true, false, cond, _&&_}
 use mathlib.Core.List.{List, [], _∷_}
+use mathlib.Core.Option.{none, some}
+use lib.Dec.{eqb, ltb, leb}
 use lib.ListN.{getD, length}
 use Rattle.laws.specs.Tab.{tab}
-use Rattle.picture.specs.Layout.{slotAt, recordAt, kindAt, placeAt, entryAt, oldAt, size}
-use Rattle.picture.specs.Places.{places}
-use Rattle.picture.specs.Limits.{depth, addresses}
-use Rattle.history.specs.Standing.{Known, unknown, told, outcomeOf, Event}
-use Rattle.picture.specs.Bytes.{modulesOf, keptOf, nextOf, before, undoneSlot, undoneStart, undoneCount, fits}
-use Rattle.history.specs.Machine.{Module, Undo, same, entered, wrote, State, step}
+use Rattle.places.specs.Limits.{depth, ring, addresses, mostPlaces}
+use Rattle.places.specs.Places.{places}
+use Rattle.places.specs.Layout.{slotAt, recordsAt, recordHead, recordSize, recordAt, kindAt, placeAt, ringAt, oldSize, oldAt, size}
+use Rattle.places.specs.Head.{modulesOf, keptOf, nextOf, before}
+use Rattle.picture.specs.Log.{didEnter}
+use Rattle.picture.specs.Stepping.{offsetOf}
+use Rattle.history.specs.Standing.{unknown, told, outcomeOf, Event}
+use Rattle.history.specs.Machine.{Cell, Module, Undo, same, entered, wrote, lost, State, step}
 use Rattle.history.specs.Demand3.{doing}
 
--- a value byte and a told byte
-abbrev pub knownOf : ℕ → ℕ → Known
-knownOf v zero = unknown
-knownOf v (suc t) = told v
+-- what a place holds by its two bytes: a value and 0 where it is told, 0 and 1 where it is not heard
+abbrev pub cellOf : ℕ → ℕ → Cell
+cellOf v zero = some (told v)
+cellOf zero (suc zero) = some unknown
+cellOf zero (suc (suc t)) = none
+cellOf (suc v) (suc t) = none
 
--- what is known by the two bytes at o
-unfoldable pub knownAt : List ℕ → ℕ → Known
-knownAt b o = knownOf (getD b o 0) (getD b (o + 1) 0)
+unfoldable pub cellAt : List ℕ → ℕ → Cell
+cellAt b o = cellOf (getD b o 0) (getD b (o + 1) 0)
 
 -- the module in slot s
 unfoldable pub moduleAt : List ℕ → ℕ → Module
-moduleAt b s =
-    record { address = getD b (recordAt s) 0; kind = getD b (kindAt s) 0; places = tab places (λ p. knownAt b (placeAt s p)) }
+moduleAt b s = record { address = getD b (recordAt s) 0; kind = getD b (kindAt s) 0; places = tab places (λ p. cellAt b (placeAt s p)) }
 
--- what the log's entry e undoes; one whose run does not lie in a record undoes nothing
-abbrev pub undoOf : ℕ → Undo → Undo
-undoOf zero u = same
-undoOf (suc zero) u = entered
-undoOf (suc (suc n)) u = u
+-- the offset of a place: how far into which record, and which place it is
+abbrev pub recordOf : ℕ → ℕ
+recordOf o = (o - recordsAt) / recordSize
 
-abbrev pub fitted : Bool → Undo → Undo
-fitted true u = u
-fitted false u = same
+abbrev pub placeOf : ℕ → ℕ
+placeOf o = ((o - recordsAt) % recordSize - recordHead) / 2
 
+-- the i-th of the eight old contents that the log's entry e keeps, from a place on; past the last place there is none
+abbrev pub oldCell : List ℕ → ℕ → ℕ → ℕ → Cell
+oldCell b e place i = cond (ltb (place + i) places) (cellAt b (oldAt e + 2 * i)) none
+
+-- what the entry puts back at an offset; one that is no place of a record is lost
+unfoldable pub wroteAt : List ℕ → ℕ → ℕ → Undo
+wroteAt b e o =
+    cond (eqb (placeAt (recordOf o) (placeOf o)) o && ltb (placeOf o) places) (wrote (recordOf o) (placeOf o) (tab mostPlaces (oldCell b e (placeOf o)))) lost
+
+-- what the log's entry e undoes
 unfoldable pub undoAt : List ℕ → ℕ → Undo
 undoAt b e =
-    undoOf (getD b (entryAt e) 0)
-    (fitted (fits (undoneSlot b e) (undoneStart b e) (undoneCount b e))
-    (wrote (undoneSlot b e) (undoneStart b e) (tab (undoneCount b e) (λ i. knownAt b (oldAt e + 2 * i)))))
+    cond (leb (offsetOf b e) (ringAt - oldSize)) (wroteAt b e (offsetOf b e))
+    (cond (eqb (offsetOf b e) didEnter) entered same)
 
 -- the entries that the ring holds, latest first: the latest stands before `next`, going round, and `count` of them are kept
 unfoldable pub entries : List Undo → ℕ → ℕ → List Undo
-entries ring next zero = []
-entries ring next (suc count) = getD ring (before next) same ∷ entries ring (before next) count
+entries us next zero = []
+entries us next (suc count) = getD us (before next) same ∷ entries us (before next) count
 
 unfoldable pub stateOf : List ℕ → State
-stateOf b = record { modules = tab (modulesOf b) (moduleAt b); log = entries (tab depth (undoAt b)) (nextOf b) (keptOf b) }
+stateOf b = record { modules = tab (modulesOf b) (moduleAt b); log = entries (tab ring (undoAt b)) (nextOf b) (keptOf b) }
 
 -- What every call leaves so: the bytes are enough, and the table names the slot of each module's address.
 pub record Good (b : List ℕ) : Type 0 where
   pub whole : size ≤ length b
   pub small : (s : ℕ) → s < modulesOf b → getD b (recordAt s) 0 < addresses
   pub table : (s : ℕ) → s < modulesOf b → getD b (slotAt (getD b (recordAt s) 0)) 0 ≡ s
+
+-- and the log keeps no more than the depth, and has lost nothing
+abbrev pub Found : Undo → Type 0
+Found same = Unit {0}
+Found entered = Unit {0}
+Found (wrote s i os) = Unit {0}
+Found lost = ⊥
+
+abbrev pub AllFound : List Undo → Type 0
+AllFound [] = Unit {0}
+AllFound (u ∷ us) = Found u × AllFound us
+
+abbrev pub Sound : List Undo → Type 0
+Sound us = (length us ≤ depth) × AllFound us
 
 -- One step on the bytes is one step of the machine.
 pub record Refines (e : Event) (b : List ℕ) : Type 0 where
@@ -64,4 +89,4 @@ pub record Refines (e : Event) (b : List ℕ) : Type 0 where
   pub answer : doing e b .outcome ≡ outcomeOf (step e (stateOf b) .answer)
 
 abbrev pub OneStep : Type 0
-OneStep = (e : Event) (b : List ℕ) → Good b → Refines e b
+OneStep = (e : Event) (b : List ℕ) → Good b → Sound (stateOf b .log) → Refines e b

@@ -1,5 +1,5 @@
 -- What a message says of each place that it names, as document 01 has it. The proof is proofs/Speaks.antt.
-use Prim.Native.Nat.{ℕ, _+_, _<_}
+use Prim.Native.Nat.{ℕ, _+_, _<_, _≤_}
 use mathlib.Core.Path.{_≡_}
 use mathlib.Core.Bool.{cond}
 use mathlib.Core.List.{List, [], _∷_}
@@ -9,14 +9,15 @@ use Rattle.frame.specs.declared.messages.Location.{Location}
 use Rattle.frame.specs.declared.messages.Time.{Time}
 use Rattle.frame.specs.declared.messages.Glow.{Glow}
 use Rattle.frame.specs.declared.messages.Command.{Command}
-use Rattle.frame.specs.declared.messages.Command.the-variants.{TypeIr, TypeBl, CellTold, BlockTold, CellSet, BlockSet, NameOne, NameTwo, NameThree, InputStatus, LedsAll, Leds, BlindStatus, BlindStop, BlindUp, BlindDown}
-use Rattle.picture.specs.Places.{yearPlace, weekPlace, ledPlace, blindPlace, characterPlace, cellPlace}
-use Rattle.picture.specs.Runs.{Saying, silent, asks, tells, said, bit, glowNumber, glowBy, nameOf, runOf}
-use Rattle.picture.specs.Fitting.{Outside}
+use Rattle.frame.specs.declared.messages.Command.the-variants.{TypeLong, TypeShort, CellTold, BlockTold, CellSet, BlockSet, NameOne, NameTwo, NameThree, InputStatus, LedsAll, Leds, BlindStatus, BlindStop, BlindUp, BlindDown}
+use Rattle.frame.specs.Types.{nameOf}
+use Rattle.places.specs.Places.{yearPlace, weekPlace, ledPlace, blindPlace, characterPlace, cellPlace}
+use Rattle.places.specs.Runs.{Saying, silent, asks, tells, Run, said, bit, glowNumber, glowBy, meaningOf, runIn}
+use Rattle.places.specs.Fitting.{endOf}
 
 -- what a message says of the place p; and a row of values, told one after the other
 abbrev pub says : ℕ → Command → ℕ → Saying
-says kind m p = said (runOf kind m) p
+says kind m p = said (runIn (meaningOf kind m)) p
 
 abbrev pub tellsOf : List ℕ → ℕ → Saying
 tellsOf values i = tells (getD values i 0)
@@ -24,6 +25,10 @@ tellsOf values i = tells (getD values i 0)
 -- on if the on bit is set; else very fast if both others are; else slow, fast or off
 abbrev pub tellsLed : ℕ → ℕ → ℕ → ℕ → Saying
 tellsLed on slow fast i = tells (glowNumber (glowBy (bit on i) (bit slow i) (bit fast i)))
+
+-- the places outside a run
+abbrev pub Outside : Run → ℕ → Type 0
+Outside r p = r .start ≤ p → p < endOf r → ⊥
 
 -- What each message that names a place says of it.
 pub record Speaks (kind : ℕ) : Type 0 where
@@ -48,13 +53,13 @@ pub record Speaks (kind : ℕ) : Type 0 where
   pub blind-stopped : (n : ℕ) → says kind (BlindStop n) (blindPlace 1) ≡ asks
   pub blind-up : (n : ℕ) (t : Time) → says kind (BlindUp n t) (blindPlace 1) ≡ asks
   pub blind-down : (n : ℕ) (t : Time) → says kind (BlindDown n t) (blindPlace 1) ≡ asks
-  -- FF tells the build: bytes 6 and 7 of H'0A', 4 and 5 of H'03'
-  pub year-ir : (a b c year week : ℕ) → says kind (TypeIr a b c year week) yearPlace ≡ tells year
-  pub week-ir : (a b c year week : ℕ) → says kind (TypeIr a b c year week) weekPlace ≡ tells week
-  pub year-bl : (a year week : ℕ) → says kind (TypeBl a year week) yearPlace ≡ tells year
-  pub week-bl : (a year week : ℕ) → says kind (TypeBl a year week) weekPlace ≡ tells week
+  -- FF tells the build: its last two bytes
+  pub year-long : (k a b c year week : ℕ) → says kind (TypeLong k a b c year week) yearPlace ≡ tells year
+  pub week-long : (k a b c year week : ℕ) → says kind (TypeLong k a b c year week) weekPlace ≡ tells week
+  pub year-short : (k a year week : ℕ) → says kind (TypeShort k a year week) yearPlace ≡ tells year
+  pub week-short : (k a year week : ℕ) → says kind (TypeShort k a year week) weekPlace ≡ tells week
   -- no message says anything of a place outside its run; every other command has a run of no place
-  pub elsewhere : (m : Command) (p : ℕ) → Outside (runOf kind m) p → says kind m p ≡ silent
+  pub elsewhere : (m : Command) (p : ℕ) → Outside (runIn (meaningOf kind m)) p → says kind m p ≡ silent
 
 abbrev pub SpeaksOf : Type 0
 SpeaksOf = (kind : ℕ) → Speaks kind

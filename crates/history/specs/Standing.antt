@@ -6,16 +6,12 @@ use mathlib.Core.List.{List, [], _∷_}
 use mathlib.Core.Option.{Option, none, some}
 use lib.Dec.{eqb, ltb}
 use Rattle.laws.specs.Refusals.{noRoom, nothingKept}
-use Rattle.frame.specs.Rows.{noType}
+use Rattle.frame.specs.Types.{noType}
 use Rattle.frame.specs.Reading.{reading}
-use Rattle.frame.specs.declared.messages.Message.{Message}
-use Rattle.frame.specs.declared.messages.Message.the-variants.{TypeRequest, Tells}
-use Rattle.frame.specs.declared.reader.Reading.{Reading}
-use Rattle.frame.specs.declared.reader.Reading.the-variants.{Read, Refused}
-use Rattle.picture.specs.declared.Outcome.{Outcome}
-use Rattle.picture.specs.declared.Outcome.the-variants as outcome
-use Rattle.picture.specs.Limits.{room, depth, busAddress}
-use Rattle.picture.specs.Runs.{Run, Saying, silent, asks, tells, said, noRun, runOf, typeEntered}
+use Rattle.places.specs.declared.answers.Outcome.{Outcome}
+use Rattle.places.specs.declared.answers.Outcome.the-variants as outcome
+use Rattle.places.specs.Limits.{room, depth, busAddress}
+use Rattle.places.specs.Runs.{Run, Saying, silent, asks, tells, said, Meaning, refuses, names, enters, readAs}
 
 -- A frame as it is heard.
 pub record Frame : Type 0 where
@@ -27,31 +23,10 @@ pub record Frame : Type 0 where
 abbrev pub address : Frame → ℕ
 address f = busAddress (f .identifier)
 
--- What a frame means: a refusal; a run of places that it names; or an entry of a type, with the run that holds the build.
-pub data Meaning : Type 0 where
-  refuses : ℕ → Meaning
-  names : Run → Meaning
-  enters : ℕ → Run → Meaning
-
 -- the type handed to the reader: 0 where none is known
 abbrev pub handed : Option ℕ → ℕ
 handed none = noType
 handed (some kind) = kind
-
--- by the type that a message enters (0: none)
-unfoldable pub entersAs : ℕ → Run → Meaning
-entersAs zero r = names r
-entersAs (suc k) r = enters (suc k) r
-
--- by the message: the type request names no place
-unfoldable pub meant : ℕ → Message → Meaning
-meant kind TypeRequest = names noRun
-meant kind (Tells m) = entersAs (typeEntered m) (runOf kind m)
-
--- by what the reader gives
-unfoldable pub read : ℕ → Reading → Meaning
-read kind (Refused n) = refuses n
-read kind (Read a m) = meant kind m
 
 -- an entry of the type that is known already changes only the build
 unfoldable pub sense : Option ℕ → Meaning → Meaning
@@ -62,7 +37,7 @@ sense (some t) (enters k r) = cond (eqb t k) (names r) (enters k r)
 
 -- what a frame means, by the type known for its address
 unfoldable pub meaning : Option ℕ → Frame → Meaning
-meaning t f = sense t (read (handed t) (reading (handed t) (f .identifier) (f .remote) (f .bytes)))
+meaning t f = sense t (readAs (handed t) (reading (handed t) (f .identifier) (f .remote) (f .bytes)))
 
 -- The type known for an address: that of the latest standing frame that entered it.
 -- (whether the frame is at the address; what it means; the type known before it)

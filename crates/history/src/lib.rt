@@ -1,6 +1,6 @@
 // What the standing frames tell, and that the picture's bytes show it: the crate is its statements (specs/) and their proofs (proofs/).
 ghost use mathlib.Core.Path.{_≡_};
-ghost use Rattle.picture.specs.Limits.{depth};
+ghost use Rattle.places.specs.Limits.{depth};
 
 // The most steps back that are kept; the one function here, because a crate must have one.
 pub fn most_kept() -> u8

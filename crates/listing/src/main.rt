@@ -2,12 +2,9 @@
 use libc::STDERR_FILENO;
 use libc::STDIN_FILENO;
 use libc::STDOUT_FILENO;
+use places::Outcome;
+use replay::LISTING_ROOM;
 use replay::Stream;
-
-// The bytes of a picture, and the room that the longest listing takes: 65 bytes for each of 256 addresses and of three other lines.
-const PICTURE_SIZE: usize = 17200;
-
-const LISTING_ROOM: usize = 65 * 259;
 
 // What was heard of the input, and whether reading it failed before its end.
 struct Input {
@@ -42,22 +39,10 @@ fn hear_input(picture: &mut [u8], window: &mut [u8]) -> Input {
     Input { stream, failed }
 }
 
-// A listing that could not be read or written to its end is told, and never shown as a short one.
-fn main() {
-    let mut picture = [0u8; PICTURE_SIZE];
-    let mut window = io::large_buffer();
+// Lists what was heard, and tells where the listing could not be written to its end.
+fn put_out(picture: &[u8], stream: Stream) {
     let mut out = [0u8; LISTING_ROOM];
-    picture::fresh(&mut picture);
-    let input = hear_input(&mut picture, &mut window);
-    if input.failed {
-        io::write_all(
-            STDERR_FILENO,
-            b"listing: the recording could not be read to its end\n",
-        );
-        return;
-    }
-    let stream = input.stream;
-    let n = replay::put_listing(&picture, &mut out, stream);
+    let n = replay::put_listing(picture, &mut out, stream);
     if n <= LISTING_ROOM {
         if !io::write_all(STDOUT_FILENO, &out[0..n]) {
             io::write_all(
@@ -66,4 +51,23 @@ fn main() {
             );
         }
     }
+}
+
+// A recording that could not be read to its end is told, and never shown as a short listing.
+fn main() {
+    let mut picture = [0u8; picture::SIZE];
+    let mut window = io::large_buffer();
+    let Outcome::Done = picture::fresh(&mut picture) else {
+        io::write_all(STDERR_FILENO, b"listing: there is no room for a picture\n");
+        return;
+    };
+    let input = hear_input(&mut picture, &mut window);
+    if input.failed {
+        io::write_all(
+            STDERR_FILENO,
+            b"listing: the recording could not be read to its end\n",
+        );
+        return;
+    }
+    put_out(&picture, input.stream);
 }

@@ -1,7 +1,3 @@
-pub mod CodePlaces
-pub mod CodeBytes
-pub mod CodeRuns
-pub mod CodeQuestions
-pub mod CodeCommands
-pub mod Fitting
-pub mod CodeHearing
+pub mod Storing
+pub mod Meant
+pub mod Heard

@@ -1,9 +1,7 @@
--- Read in this order: what a reader must believe is in Places and Runs; the contracts cite Bytes and Questions.
-pub mod Limits
-pub mod Places
-pub mod Runs
-pub mod Result
-pub mod Layout
-pub mod Bytes
-pub mod Fitting
-pub mod Questions
+-- What hearing, stepping back and a fresh picture do to the bytes, for every list of bytes; the contracts cite these. Read in this order.
+pub mod Stores
+pub mod Log
+pub mod Hearing
+pub mod Commands
+pub mod Stepping
+pub mod Fresh

@@ -1,39 +1,41 @@
 // What an accepted command tells the module in a slot, by the frame's bytes.
-use crate::bytes::byte_at;
-use crate::channels::name_of;
-use crate::leds::glow_number;
-use crate::places::BLINDS;
-use crate::places::cell_place;
-use crate::places::character_place;
 use crate::telling::ask_four;
 use crate::telling::ask_one;
+use crate::telling::pass;
 use crate::telling::tell_four;
 use crate::telling::tell_leds;
-use crate::telling::tell_none;
 use crate::telling::tell_one;
 use crate::telling::tell_six;
 use crate::telling::tell_some_leds;
 use frame::Glow;
 use frame::Location;
+use frame::name_of;
+use laws::byte_at;
 use laws::wide16;
+use laws::wide32;
+use places::BLINDS;
+use places::cell_place;
+use places::character_place;
+use places::glow_number;
 ghost use mathlib.Core.Path.{_≡_};
-ghost use mathlib.Core.Bool.{false};
+ghost use mathlib.Core.Bool.{true, false};
 ghost use mathlib.Core.List.{[], _∷_};
 ghost use Prim.Native.Nat.{_+_, _<_, _≤_};
-ghost use lib.ListN.{length, replicate};
+ghost use lib.ListN.{length};
 ghost use Rattle.laws.specs.Tests.{among};
+ghost use Rattle.frame.specs.Types.{nameOf, rowFor, isListed};
 ghost use Rattle.frame.specs.Bytes.{byte};
-ghost use Rattle.frame.specs.Messages.{typeCommand, place};
-ghost use Rattle.picture.specs.Layout.{size};
-ghost use Rattle.picture.specs.Limits.{room};
-ghost use Rattle.picture.specs.Places.{places, cellPlace, characterPlace};
-ghost use Rattle.picture.specs.Runs.{nameOf, telling, runOf, commandOf, cellCommands, nameCommands, ledCommands};
-ghost use Rattle.picture.specs.Fitting.{endOf};
-ghost use Rattle.picture.specs.Bytes.{toldBytes};
+ghost use Rattle.frame.specs.Messages.{typeCommand, locationIn};
+ghost use Rattle.places.specs.Limits.{room};
+ghost use Rattle.places.specs.Places.{places, cellPlace, characterPlace};
+ghost use Rattle.places.specs.Fitting.{endOf};
+ghost use Rattle.places.specs.Layout.{size};
+ghost use Rattle.picture.specs.Hearing.{naming};
+ghost use Rattle.picture.specs.Commands.{namedBy, cellCommands, nameCommands, ledCommands};
 
 // The place of the cell that bytes 2 and 3 of a frame name.
 fn cell_in(kind: u8, data: &[u8]) -> u32
-    ensures { λ r. ⌜ r ≡ cellPlace kind (place (now («data» .entry)) .0) ⌝ }
+    ensures { λ r. ⌜ r ≡ cellPlace kind (locationIn (now («data» .entry)) .0) ⌝ }
 {
     let high = wide16(byte_at(data, 1));
     let low = wide16(byte_at(data, 2));
@@ -44,64 +46,32 @@ fn cell_in(kind: u8, data: &[u8]) -> u32
 fn character_in(kind: u8, data: &[u8], i: u8) -> u32
     ensures { λ r. ⌜ r ≡ characterPlace kind (nameOf kind (byte 2 (now («data» .entry)))) i ⌝ }
 {
-    let name = name_of(kind, byte_at(data, 1));
+    let name = name_of(wide32(kind), byte_at(data, 1));
     character_place(kind, name, i)
-}
-
-// Four cells, which bytes 4 to 7 of a frame tell.
-fn tell_block(picture: &mut [u8], slot: u8, start: u32, data: &[u8])
-    requires { ⌜ (size ≤ length (now picture)) × (slot < room) × (start + 4 ≤ places) ⌝ }
-    ensures { λ _. ⌜ now (picture .exit) ≡ toldBytes (now (picture .entry)) slot (telling start 4 (byte 4 (now («data» .entry)) ∷ byte 5 (now («data» .entry)) ∷ byte 6 (now («data» .entry)) ∷ byte 7 (now («data» .entry)) ∷ replicate 4 0)) ⌝ }
-{
-    tell_four(
-        picture,
-        slot,
-        start,
-        byte_at(data, 3),
-        byte_at(data, 4),
-        byte_at(data, 5),
-        byte_at(data, 6),
-    );
-}
-
-// Four characters, which bytes 3 to 6 of a frame tell.
-fn tell_last_part(picture: &mut [u8], slot: u8, start: u32, data: &[u8])
-    requires { ⌜ (size ≤ length (now picture)) × (slot < room) × (start + 4 ≤ places) ⌝ }
-    ensures { λ _. ⌜ now (picture .exit) ≡ toldBytes (now (picture .entry)) slot (telling start 4 (byte 3 (now («data» .entry)) ∷ byte 4 (now («data» .entry)) ∷ byte 5 (now («data» .entry)) ∷ byte 6 (now («data» .entry)) ∷ replicate 4 0)) ⌝ }
-{
-    tell_four(
-        picture,
-        slot,
-        start,
-        byte_at(data, 2),
-        byte_at(data, 3),
-        byte_at(data, 4),
-        byte_at(data, 5),
-    );
 }
 
 // Of the commands that name no cell, no character and no LED: those on the blind.
 fn tell_blind(picture: &mut [u8], slot: u8, kind: u8, command: u8, data: &[u8])
     requires { ⌜ (size ≤ length (now picture)) × (slot < room) × (command ≡ byte 1 (now «data»)) ⌝ }
-    requires { ⌜ endOf (runOf kind (commandOf (now «data»))) ≤ places ⌝ }
+    requires { ⌜ endOf (namedBy kind (now «data»)) ≤ places ⌝ }
     requires { ⌜ (among command cellCommands ≡ false) × (among command nameCommands ≡ false) × (among command ledCommands ≡ false) × (among command (typeCommand ∷ []) ≡ false) ⌝ }
-    ensures { λ _. ⌜ now (picture .exit) ≡ toldBytes (now (picture .entry)) slot (runOf kind (commandOf (now («data» .entry)))) ⌝ }
+    ensures { λ _. ⌜ now (picture .exit) ≡ naming (now (picture .entry)) slot (namedBy kind (now («data» .entry))) ⌝ }
 {
     match command {
         0xEC => tell_one(picture, slot, BLINDS, byte_at(data, 3)),
         0x04 => ask_one(picture, slot, BLINDS),
         0x05 => ask_one(picture, slot, BLINDS),
         0x06 => ask_one(picture, slot, BLINDS),
-        _ => tell_none(picture, slot),
+        _ => pass(picture),
     }
 }
 
 // Of the commands that name no cell and no character: those on LEDs.
 fn tell_lights(picture: &mut [u8], slot: u8, kind: u8, command: u8, data: &[u8])
     requires { ⌜ (size ≤ length (now picture)) × (slot < room) × (command ≡ byte 1 (now «data»)) ⌝ }
-    requires { ⌜ endOf (runOf kind (commandOf (now «data»))) ≤ places ⌝ }
+    requires { ⌜ endOf (namedBy kind (now «data»)) ≤ places ⌝ }
     requires { ⌜ (among command cellCommands ≡ false) × (among command nameCommands ≡ false) × (among command (typeCommand ∷ []) ≡ false) ⌝ }
-    ensures { λ _. ⌜ now (picture .exit) ≡ toldBytes (now (picture .entry)) slot (runOf kind (commandOf (now («data» .entry)))) ⌝ }
+    ensures { λ _. ⌜ now (picture .exit) ≡ naming (now (picture .entry)) slot (namedBy kind (now («data» .entry))) ⌝ }
 {
     match command {
         0xEB => tell_leds(
@@ -130,14 +100,14 @@ fn tell_lights(picture: &mut [u8], slot: u8, kind: u8, command: u8, data: &[u8])
 // Of the commands that name no cell: the parts of a name.
 fn tell_names(picture: &mut [u8], slot: u8, kind: u8, command: u8, data: &[u8])
     requires { ⌜ (size ≤ length (now picture)) × (slot < room) × (command ≡ byte 1 (now «data»)) ⌝ }
-    requires { ⌜ endOf (runOf kind (commandOf (now «data»))) ≤ places ⌝ }
-    requires { ⌜ (among command cellCommands ≡ false) × (among command (typeCommand ∷ []) ≡ false) ⌝ }
-    ensures { λ _. ⌜ now (picture .exit) ≡ toldBytes (now (picture .entry)) slot (runOf kind (commandOf (now («data» .entry)))) ⌝ }
+    requires { ⌜ endOf (namedBy kind (now «data»)) ≤ places ⌝ }
+    requires { ⌜ (among command cellCommands ≡ false) × (among command (typeCommand ∷ []) ≡ false) × (isListed kind command ≡ true) × (length (now «data») ≡ rowFor kind command .0) ⌝ }
+    ensures { λ _. ⌜ now (picture .exit) ≡ naming (now (picture .entry)) slot (namedBy kind (now («data» .entry))) ⌝ }
 {
     match command {
         0xF0 => tell_six(picture, slot, character_in(kind, data, 1), data),
         0xF1 => tell_six(picture, slot, character_in(kind, data, 7), data),
-        0xF2 => tell_last_part(picture, slot, character_in(kind, data, 13), data),
+        0xF2 => tell_four(picture, slot, character_in(kind, data, 13), data, 2),
         _ => tell_lights(picture, slot, kind, command, data),
     }
 }
@@ -146,13 +116,13 @@ fn tell_names(picture: &mut [u8], slot: u8, kind: u8, command: u8, data: &[u8])
 // are one table.
 pub(crate) fn tell_command(picture: &mut [u8], slot: u8, kind: u8, command: u8, data: &[u8])
     requires { ⌜ (size ≤ length (now picture)) × (slot < room) × (command ≡ byte 1 (now «data»)) ⌝ }
-    requires { ⌜ endOf (runOf kind (commandOf (now «data»))) ≤ places ⌝ }
-    requires { ⌜ (among command (typeCommand ∷ []) ≡ false) ⌝ }
-    ensures { λ _. ⌜ now (picture .exit) ≡ toldBytes (now (picture .entry)) slot (runOf kind (commandOf (now («data» .entry)))) ⌝ }
+    requires { ⌜ endOf (namedBy kind (now «data»)) ≤ places ⌝ }
+    requires { ⌜ (among command (typeCommand ∷ []) ≡ false) × (isListed kind command ≡ true) × (length (now «data») ≡ rowFor kind command .0) ⌝ }
+    ensures { λ _. ⌜ now (picture .exit) ≡ naming (now (picture .entry)) slot (namedBy kind (now («data» .entry))) ⌝ }
 {
     match command {
         0xFE => tell_one(picture, slot, cell_in(kind, data), byte_at(data, 3)),
-        0xCC => tell_block(picture, slot, cell_in(kind, data), data),
+        0xCC => tell_four(picture, slot, cell_in(kind, data), data, 3),
         0xFC => ask_one(picture, slot, cell_in(kind, data)),
         0xCA => ask_four(picture, slot, cell_in(kind, data)),
         _ => tell_names(picture, slot, kind, command, data),

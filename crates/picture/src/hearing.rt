@@ -1,71 +1,42 @@
 // Hearing a frame.
-use crate::Outcome;
-use crate::bytes::byte_at;
-use crate::bytes::put_at;
 use crate::commands::tell_command;
-use crate::head::NO_SLOT;
-use crate::head::NO_TYPE;
-use crate::head::kind_in;
-use crate::head::modules_of;
-use crate::head::slot_of;
-use crate::layout::COUNT_AT;
-use crate::layout::KEPT_AT;
-use crate::layout::ROOM;
-use crate::layout::SIZE;
-use crate::layout::slot_at;
 use crate::log::DID_ENTER;
-use crate::log::DID_NOTHING;
-use crate::log::open_entry;
+use crate::log::note;
 use crate::log::step_on;
-use crate::records::blank_record;
-use crate::telling::put_build;
+use crate::records::new_record;
+use crate::telling::pass;
 use crate::telling::tell_build;
-use crate::telling::tell_none;
 use frame::Address;
+use frame::NO_TYPE;
 use frame::TYPE_FRAME;
-use frame::VMB1BL;
-use frame::VMB8IR;
+use frame::address_of;
 use laws::NO_ROOM;
 use laws::TOO_SHORT;
+use laws::byte_at;
 use laws::wide32;
+use places::COUNT_AT;
+use places::KEPT_AT;
+use places::NO_SLOT;
+use places::Outcome;
+use places::ROOM;
+use places::SIZE;
+use places::kind_in;
+use places::modules_of;
+use places::next_of;
+use places::put_at;
+use places::slot_at;
+use places::slot_of;
 ghost use mathlib.Core.Path.{_≡_};
 ghost use Prim.Native.Nat.{_<_, _≤_};
 ghost use lib.ListN.{length};
-ghost use Rattle.frame.specs.Messages.{typeFrame};
-ghost use Rattle.picture.specs.Layout.{size};
-ghost use Rattle.picture.specs.Limits.{room, busAddress};
-ghost use Rattle.picture.specs.Runs.{buildTold};
-ghost use Rattle.picture.specs.Bytes.{
-  modulesOf,
-  noSlot,
-  sameBytes,
-  newRecord,
-  listedAt,
-  enteredBytes,
-  exchangedBytes,
-  entering,
-  hearingCommand,
-  hearingAt,
-  hearing,
-};
-
-// A step with no effect.
-fn pass(picture: &mut [u8])
-    requires { ⌜ size ≤ length (now picture) ⌝ }
-    ensures { λ _. ⌜ now (picture .exit) ≡ sameBytes (now (picture .entry)) ⌝ }
-{
-    open_entry(picture, DID_NOTHING, 0, 0, 0);
-    step_on(picture);
-}
-
-// Every place unknown, then the build.
-fn new_record(picture: &mut [u8], slot: u8, address: Address, kind: u8, year: u8, week: u8)
-    requires { ⌜ (size ≤ length (now picture)) × (slot < room) ⌝ }
-    ensures { λ _. ⌜ now (picture .exit) ≡ newRecord (now (picture .entry)) slot (address .0) kind (buildTold year week) ⌝ }
-{
-    blank_record(picture, slot, address, kind);
-    put_build(picture, slot, year, week);
-}
+ghost use Rattle.frame.specs.Types.{rowFor};
+ghost use Rattle.frame.specs.Bytes.{byte};
+ghost use Rattle.frame.specs.Messages.{typeCommand, typeFrame};
+ghost use Rattle.places.specs.Limits.{room};
+ghost use Rattle.places.specs.Runs.{buildTold, meaningOf};
+ghost use Rattle.places.specs.Layout.{size};
+ghost use Rattle.places.specs.Head.{modulesOf, noSlot};
+ghost use Rattle.picture.specs.Hearing.{listedAt, enteredBytes, exchangedBytes, entering, hearingAs, hearingAt, hearing};
 
 // A module more.
 fn list_at(picture: &mut [u8], slot: u8, address: Address)
@@ -81,7 +52,8 @@ fn enter(picture: &mut [u8], address: Address, kind: u8, year: u8, week: u8)
     ensures { λ _. ⌜ now (picture .exit) ≡ enteredBytes (now (picture .entry)) (address .0) kind (buildTold year week) ⌝ }
 {
     let slot = modules_of(picture);
-    open_entry(picture, DID_ENTER, 0, 0, 0);
+    let entry = next_of(picture);
+    note(picture, entry, DID_ENTER);
     new_record(picture, slot, address, kind, year, week);
     list_at(picture, slot, address);
     step_on(picture);
@@ -125,41 +97,24 @@ fn enter_as(
     Outcome::Refused(NO_ROOM)
 }
 
-// A type frame that was accepted.
+// A type frame that was accepted: byte 2 is the type, and the last two bytes are the build.
 fn hear_type(picture: &mut [u8], slot: u8, address: Address, kind: u8, data: &[u8]) -> Outcome
-    requires { ⌜ size ≤ length (now picture) ⌝ }
-    ensures { λ r. ⌜ r ≡ hearingCommand (now (picture .entry)) slot (address .0) kind (typeFrame (now («data» .entry))) .outcome ⌝ }
-    ensures { λ _. ⌜ now (picture .exit) ≡ hearingCommand (now (picture .entry)) slot (address .0) kind (typeFrame (now («data» .entry))) .buffer ⌝ }
+    requires { ⌜ (size ≤ length (now picture)) × (2 ≤ length (now «data»)) ⌝ }
+    requires { ⌜ length (now «data») ≡ rowFor (byte 2 (now «data»)) typeCommand .0 ⌝ }
+    ensures { λ r. ⌜ r ≡ hearingAs (now (picture .entry)) slot (address .0) kind (meaningOf kind (typeFrame (now («data» .entry)))) .outcome ⌝ }
+    ensures { λ _. ⌜ now (picture .exit) ≡ hearingAs (now (picture .entry)) slot (address .0) kind (meaningOf kind (typeFrame (now («data» .entry)))) .buffer ⌝ }
 {
-    let five = byte_at(data, 4);
-    let six = byte_at(data, 5);
-    if wide32(byte_at(data, 1)) == VMB8IR {
-        enter_as(
-            picture,
-            slot,
-            address,
-            kind,
-            VMB8IR as u8,
-            six,
-            byte_at(data, 6),
-        )
-    } else {
-        enter_as(
-            picture,
-            slot,
-            address,
-            kind,
-            VMB1BL as u8,
-            byte_at(data, 3),
-            five,
-        )
-    }
-}
-
-fn bus_address(identifier: u32) -> Address
-    ensures { λ r. ⌜ r .0 ≡ busAddress identifier ⌝ }
-{
-    Address((identifier / 2 % 256) as u8)
+    let last = data.len() - 1;
+    let entered = byte_at(data, 1);
+    enter_as(
+        picture,
+        slot,
+        address,
+        kind,
+        entered,
+        data[last - 1],
+        data[last],
+    )
 }
 
 // A frame of the module in a slot.
@@ -174,12 +129,12 @@ fn hear_listed(picture: &mut [u8], slot: u8, identifier: u32, remote: u32, data:
         return Outcome::Refused(number);
     }
     if remote == 1 {
-        tell_none(picture, slot);
+        pass(picture);
         return Outcome::Done;
     }
     let command = byte_at(data, 0);
     if command == TYPE_FRAME {
-        return hear_type(picture, slot, bus_address(identifier), kind, data);
+        return hear_type(picture, slot, address_of(identifier), kind, data);
     }
     tell_command(picture, slot, kind, command, data);
     Outcome::Done
@@ -199,7 +154,13 @@ fn hear_unlisted(picture: &mut [u8], identifier: u32, remote: u32, data: &[u8]) 
         pass(picture);
         return Outcome::Done;
     }
-    hear_type(picture, NO_SLOT, bus_address(identifier), NO_TYPE, data)
+    hear_type(
+        picture,
+        NO_SLOT,
+        address_of(identifier),
+        NO_TYPE as u8,
+        data,
+    )
 }
 
 // A frame heard: judged at the type of its address, then entered, told, or only counted as a step.
@@ -210,7 +171,7 @@ pub fn hear(picture: &mut [u8], identifier: u32, remote: u32, data: &[u8]) -> Ou
     if picture.len() < SIZE {
         return Outcome::Refused(TOO_SHORT);
     }
-    let slot = slot_of(picture, bus_address(identifier));
+    let slot = slot_of(picture, address_of(identifier));
     if slot < ROOM {
         hear_listed(picture, slot, identifier, remote, data)
     } else {

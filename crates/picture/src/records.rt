@@ -1,61 +1,48 @@
-// A new module's record: every place unknown.
-use crate::bytes::put_at;
+// A new module's record: every place unknown, then the build.
 use crate::bytes::put_pair;
-use crate::layout::kind_at;
-use crate::layout::place_at;
-use crate::layout::record_at;
+use crate::telling::put_build;
 use frame::Address;
+use places::kind_at;
+use places::place_at;
+use places::put_at;
+use places::record_at;
 ghost use mathlib.Core.Path.{_≡_};
 ghost use Prim.Native.Nat.{_<_, _≤_};
 ghost use lib.ListN.{length, replicate};
-ghost use Rattle.picture.specs.Layout.{placeAt, size};
-ghost use Rattle.picture.specs.Limits.{room};
-ghost use Rattle.picture.specs.Places.{places};
-ghost use Rattle.picture.specs.Bytes.{blanked, blankRecord};
+ghost use Rattle.places.specs.Limits.{room};
+ghost use Rattle.places.specs.Places.{places};
+ghost use Rattle.places.specs.Runs.{buildTold};
+ghost use Rattle.places.specs.Layout.{placeAt, size};
+ghost use Rattle.picture.specs.Stores.{blanked};
+ghost use Rattle.picture.specs.Hearing.{blankRecord, newRecord};
 
 const HALF: u32 = 256;
 
-// A half of a record's places: their values, and whether each is told.
+// A half of a record's places: their values, and for each 1 where it is not heard.
 struct Half {
     values: [u8; 256],
-    told: [u8; 256],
-}
-
-// A record: the places before the cells, and the cells.
-struct Record {
-    others: Half,
-    cells: Half,
+    unheard: [u8; 256],
 }
 
 fn unknown() -> Half
-    ensures { λ r. ⌜ (r .values ≡ replicate 256 0) × (r .told ≡ replicate 256 0) ⌝ }
+    ensures { λ r. ⌜ (r .values ≡ replicate 256 0) × (r .unheard ≡ replicate 256 1) ⌝ }
 {
     Half {
         values: [0u8; 256],
-        told: [0u8; 256],
-    }
-}
-
-fn fresh_record() -> Record
-    ensures { λ r. ⌜ (r .others .values ≡ replicate 256 0) × (r .others .told ≡ replicate 256 0) ⌝ }
-    ensures { λ r. ⌜ (r .cells .values ≡ replicate 256 0) × (r .cells .told ≡ replicate 256 0) ⌝ }
-{
-    Record {
-        others: unknown(),
-        cells: unknown(),
+        unheard: [1u8; 256],
     }
 }
 
 // A half in which nothing is told, laid into a record from the place `start` on.
-fn lay_half(picture: &mut [u8], slot: u8, start: u32, half: Half)
-    requires { ⌜ (half .values ≡ replicate 256 0) × (half .told ≡ replicate 256 0) ⌝ }
+fn lay_half(picture: &mut [u8], slot: u8, start: u32, values: &[u8], unheard: &[u8])
+    requires { ⌜ (now values ≡ replicate 256 0) × (now unheard ≡ replicate 256 1) ⌝ }
     requires { ⌜ (size ≤ length (now picture)) × (slot < room) × (start ≤ 256) ⌝ }
     ensures { λ _. ⌜ now (picture .exit) ≡ blanked (now (picture .entry)) (placeAt slot start) 256 ⌝ }
 {
     let at = place_at(slot, start);
     let mut i: usize = 0;
     while i < 256 {
-        put_pair(picture, at + 2 * i, half.values[i], half.told[i]);
+        put_pair(picture, at + 2 * i, values[i], unheard[i]);
         i += 1;
     }
 }
@@ -64,19 +51,34 @@ fn lay_record(picture: &mut [u8], slot: u8)
     requires { ⌜ (size ≤ length (now picture)) × (slot < room) ⌝ }
     ensures { λ _. ⌜ now (picture .exit) ≡ blanked (now (picture .entry)) (placeAt slot 0) places ⌝ }
 {
-    let record = fresh_record();
-    let others = record.others;
-    let cells = record.cells;
-    lay_half(picture, slot, 0, others);
-    lay_half(picture, slot, HALF, cells);
+    let half = unknown();
+    let values = half.values;
+    let unheard = half.unheard;
+    lay_half(picture, slot, 0, &values, &unheard);
+    lay_half(picture, slot, HALF, &values, &unheard);
 }
 
-// A new record in a slot.
-pub(crate) fn blank_record(picture: &mut [u8], slot: u8, address: Address, kind: u8)
+fn blank_record(picture: &mut [u8], slot: u8, address: Address, kind: u8)
     requires { ⌜ (size ≤ length (now picture)) × (slot < room) ⌝ }
     ensures { λ _. ⌜ now (picture .exit) ≡ blankRecord (now (picture .entry)) slot (address .0) kind ⌝ }
 {
     put_at(picture, record_at(slot), address.0);
     put_at(picture, kind_at(slot), kind);
     lay_record(picture, slot);
+}
+
+// A new record in a slot.
+pub(crate) fn new_record(
+    picture: &mut [u8],
+    slot: u8,
+    address: Address,
+    kind: u8,
+    year: u8,
+    week: u8,
+)
+    requires { ⌜ (size ≤ length (now picture)) × (slot < room) ⌝ }
+    ensures { λ _. ⌜ now (picture .exit) ≡ newRecord (now (picture .entry)) slot (address .0) kind (buildTold year week) ⌝ }
+{
+    blank_record(picture, slot, address, kind);
+    put_build(picture, slot, year, week);
 }

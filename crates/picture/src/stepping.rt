@@ -1,28 +1,36 @@
-// A step back, and a fresh picture.
-use crate::Outcome;
-use crate::bytes::byte_at;
-use crate::bytes::put_at;
-use crate::head::kept_of;
-use crate::head::modules_of;
-use crate::head::next_of;
-use crate::layout::COUNT_AT;
-use crate::layout::DEPTH;
-use crate::layout::HEAD_SIZE;
-use crate::layout::KEPT_AT;
-use crate::layout::NEXT_AT;
-use crate::layout::SIZE;
-use crate::layout::entry_at;
+// A step back.
+use crate::bytes::copy_sixteen;
+use crate::bytes::number_at;
 use crate::log::DID_ENTER;
-use crate::log::DID_NOTHING;
-use crate::log::put_back;
 use laws::NOTHING_KEPT;
 use laws::TOO_SHORT;
+use laws::byte_at;
+use places::COUNT_AT;
+use places::KEPT_AT;
+use places::NEXT_AT;
+use places::OLD_SIZE;
+use places::Outcome;
+use places::RING;
+use places::RING_AT;
+use places::SIZE;
+use places::kept_of;
+use places::modules_of;
+use places::offset_at;
+use places::old_at;
+use places::put_at;
 ghost use mathlib.Core.Path.{_≡_};
 ghost use Prim.Native.Nat.{pred, _≤_, _<_};
 ghost use lib.ListN.{length, set};
-ghost use Rattle.picture.specs.Limits.{depth};
-ghost use Rattle.picture.specs.Layout.{countAt, headSize, size};
-ghost use Rattle.picture.specs.Bytes.{before, modulesOf, zeroed, undone, backOver, steppingBack, freshening};
+ghost use Rattle.places.specs.Limits.{ring};
+ghost use Rattle.places.specs.Layout.{countAt, size};
+ghost use Rattle.places.specs.Head.{modulesOf};
+ghost use Rattle.picture.specs.Stepping.{undone, backOver, steppingBack};
+
+// The last offset from which sixteen bytes lie below the ring.
+const LAST_OFFSET: u32 = (RING_AT - OLD_SIZE) as u32;
+
+// The ring's next entry is counted modulo 256, so that this is one entry back.
+const ONE_BACK: u8 = 255;
 
 // One fewer, and 0 of 0.
 fn one_fewer(n: u8) -> u8
@@ -39,37 +47,31 @@ fn leave(picture: &mut [u8])
     put_at(picture, COUNT_AT, fewer);
 }
 
-// What the entry says was done, undone.
+// What the entry keeps, back where it lay. One test guards any offset, and the copy cannot reach the log.
 fn undo(picture: &mut [u8], entry: u8)
-    requires { ⌜ (size ≤ length (now picture)) × (entry < depth) ⌝ }
+    requires { ⌜ (size ≤ length (now picture)) × (entry < ring) ⌝ }
     ensures { λ _. ⌜ now (picture .exit) ≡ undone (now (picture .entry)) entry ⌝ }
 {
-    let what = byte_at(picture, entry_at(entry));
-    if what == DID_NOTHING {
+    let offset = number_at(picture, offset_at(entry));
+    if offset <= LAST_OFFSET {
+        copy_sixteen(picture, offset as usize, old_at(entry));
         return;
     }
-    if what == DID_ENTER {
+    if offset == DID_ENTER {
         leave(picture);
-        return;
     }
-    put_back(picture, entry);
 }
 
-// The entry undone, one step fewer kept, and the ring back at the entry.
-fn back_over(picture: &mut [u8], entry: u8)
-    requires { ⌜ (size ≤ length (now picture)) × (entry < depth) ⌝ }
-    ensures { λ _. ⌜ now (picture .exit) ≡ backOver (now (picture .entry)) entry ⌝ }
+// The last entry undone, one step fewer kept, and the ring back at that entry.
+fn back_over(picture: &mut [u8])
+    requires { ⌜ size ≤ length (now picture) ⌝ }
+    ensures { λ _. ⌜ now (picture .exit) ≡ backOver (now (picture .entry)) ⌝ }
 {
     let fewer = one_fewer(kept_of(picture));
-    undo(picture, entry);
+    let last = std::num::wrapping_add_u8(byte_at(picture, NEXT_AT), ONE_BACK);
+    undo(picture, last % RING);
     put_at(picture, KEPT_AT, fewer);
-    put_at(picture, NEXT_AT, entry);
-}
-
-fn entry_before(entry: u8) -> u8
-    ensures { λ r. ⌜ r ≡ before entry ⌝ }
-{
-    (entry % DEPTH + 15) % DEPTH
+    put_at(picture, NEXT_AT, last);
 }
 
 pub fn step_back(picture: &mut [u8]) -> Outcome
@@ -82,29 +84,6 @@ pub fn step_back(picture: &mut [u8]) -> Outcome
     if kept_of(picture) == 0 {
         return Outcome::Refused(NOTHING_KEPT);
     }
-    let entry = entry_before(next_of(picture));
-    back_over(picture, entry);
-    Outcome::Done
-}
-
-fn clear_head(picture: &mut [u8])
-    ensures { λ _. ⌜ now (picture .exit) ≡ zeroed (now (picture .entry)) headSize ⌝ }
-{
-    let mut i: usize = 0;
-    while i < HEAD_SIZE {
-        put_at(picture, i, 0);
-        i += 1;
-    }
-}
-
-// No module, nothing kept; whatever lies in the rest is never read again.
-pub fn fresh(picture: &mut [u8]) -> Outcome
-    ensures { λ r. ⌜ r ≡ freshening (now (picture .entry)) .outcome ⌝ }
-    ensures { λ _. ⌜ now (picture .exit) ≡ freshening (now (picture .entry)) .buffer ⌝ }
-{
-    if picture.len() < SIZE {
-        return Outcome::Refused(TOO_SHORT);
-    }
-    clear_head(picture);
+    back_over(picture);
     Outcome::Done
 }

@@ -1,23 +1,23 @@
-// The numbers that the paper fixes for recordings.
+// The numbers that the paper fixes for recordings; a frame's own bounds are those of crate laws.
+use laws::MOST_BYTES;
+use laws::MOST_IDENTIFIER;
 
 // A gap in milliseconds: the greatest, and the groups that it may take.
 pub const MOST_GAP: u64 = 268435455;
 
 pub const GAP_GROUPS: u32 = 4;
 
+pub const MOST_REMOTE: u32 = 1;
+
 // The word, 2 × identifier + remote flag.
-pub const MOST_WORD: u64 = 4095;
+pub const MOST_WORD: u64 = (2 * MOST_IDENTIFIER + MOST_REMOTE) as u64;
 
 pub const WORD_GROUPS: u32 = 2;
 
-pub const MOST_IDENTIFIER: u32 = 2047;
-
-pub const MOST_REMOTE: u32 = 1;
-
 // The count of the data bytes.
-pub const MOST_COUNT: u64 = 8;
+pub const MOST_COUNT: u64 = MOST_BYTES as u64;
 
 pub const COUNT_GROUPS: u32 = 1;
 
 // So the longest record has so many bytes.
-pub const LONGEST: usize = (GAP_GROUPS + WORD_GROUPS + COUNT_GROUPS) as usize + MOST_COUNT as usize;
+pub const LONGEST: usize = (GAP_GROUPS + WORD_GROUPS + COUNT_GROUPS) as usize + MOST_BYTES;

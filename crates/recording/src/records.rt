@@ -8,6 +8,7 @@ use crate::limits::WORD_GROUPS;
 use crate::numbers::Number;
 use crate::numbers::read_groups;
 use crate::quick::quick_head;
+use laws::MOST_BYTES;
 ghost use mathlib.Core.Path.{_≡_};
 ghost use Prim.Native.Nat.{_<_};
 ghost use lib.ListN.{length};
@@ -110,7 +111,7 @@ pub fn read_record(s: &[u8], at: usize) -> Entry
     let count_at = head.next;
     if count_at != 0 {
         let len = s[count_at] as usize;
-        if len <= MOST_COUNT as usize {
+        if len <= MOST_BYTES {
             let start = count_at + 1;
             let next = start + len;
             return Entry::Record {

@@ -2,9 +2,10 @@
 use crate::limits::GAP_GROUPS;
 use crate::limits::MOST_COUNT;
 use crate::limits::MOST_GAP;
-use crate::limits::MOST_IDENTIFIER;
 use crate::limits::MOST_REMOTE;
 use crate::limits::WORD_GROUPS;
+use laws::MOST_IDENTIFIER;
+use laws::copy_in;
 ghost use mathlib.Core.Bool.{true};
 ghost use mathlib.Core.Path.{_≡_};
 ghost use Prim.Native.Nat.{_+_, _≤_};
@@ -78,18 +79,6 @@ fn put_number(out: &mut [u8], at: usize, left: u32, v: u64) -> usize
     put_number(out, at + 1, left - 1, v / 128)
 }
 
-// Writes all of `data` at `at`.
-fn put_data(out: &mut [u8], at: usize, data: &[u8])
-    requires { ⌜ at + length (now «data») ≤ length (now out) ⌝ }
-    ensures { λ _. ⌜ now (out .exit) ≡ sets (now (out .entry)) at (now («data» .entry)) ⌝ }
-{
-    let mut i = 0;
-    while i < data.len() {
-        out[at + i] = data[i];
-        i += 1;
-    }
-}
-
 // Fills the first bytes of `out` with the record.
 fn fill(out: &mut [u8], gap: u64, identifier: u32, remote: u32, data: &[u8])
     requires { ⌜ inRange gap identifier remote (length (now «data»)) ≡ true ⌝ }
@@ -99,7 +88,7 @@ fn fill(out: &mut [u8], gap: u64, identifier: u32, remote: u32, data: &[u8])
     let a = put_number(out, 0, GAP_GROUPS, gap);
     let b = put_number(out, a, WORD_GROUPS, (2 * identifier + remote) as u64);
     out[b] = data.len() as u8;
-    put_data(out, b + 1, data);
+    copy_in(out, b + 1, data);
 }
 
 // Puts a record at `at` in the caller's buffer.

@@ -11,14 +11,14 @@ use native.Mathlib.Omega.{arith}
 use lib.Dec.{ltb, eqb}
 use lib.ListN.{length, replicate, length-append}
 use Rattle.laws.proofs.Choices.{cond-elim}
-use Rattle.picture.specs.declared.Answer.{Answer}
-use Rattle.picture.specs.declared.Answer.the-variants.{Value, Refused}
-use Rattle.picture.specs.Places.{cell, nameLength, extentOf}
-use Rattle.picture.specs.Questions.{numberAnswer, typeAnswer, nameWhole, sumTo}
-use Rattle.picture.specs.Limits.{addresses}
-use Rattle.picture.specs.Limits.{notHeard}
-use Rattle.replay.specs.Replay.{isDone}
-use Rattle.replay.specs.Sheets.{wholeName, toldIf, toldCell, wholeNames, toldCells}
+use Rattle.places.specs.declared.answers.Answer.{Answer}
+use Rattle.places.specs.declared.answers.Answer.the-variants.{Value, Refused}
+use Rattle.frame.specs.Types.{extentOf}
+use Rattle.places.specs.Limits.{addresses, notHeard}
+use Rattle.places.specs.Places.{nameLength}
+use Rattle.questions.specs.Question.{type-of, cell, whole-name}
+use Rattle.questions.specs.Replies.{sumTo, reply}
+use Rattle.replay.specs.Sheets.{isValue, wholeName, toldIf, toldCell, wholeNames, toldCells}
 use Rattle.replay.specs.Lines.{header, brokenLine, countLine}
 use Rattle.replay.specs.Listing.{sheetText, typedText, moduleText, modulesText, faultText, listingText}
 use Rattle.replay.specs.TextStatements.{lineRoom, ListingFits}
@@ -27,7 +27,7 @@ use Rattle.replay.proofs.Runs.{one-or-none}
 
 pub whole-small : (b : List ℕ) (address name : ℕ) → wholeName b address name ≤ 1
 unfolding wholeName
-whole-small b address name = one-or-none (isDone (nameWhole b address name (replicate nameLength 0) .outcome))
+whole-small b address name = one-or-none (isValue (reply b address (whole-name name) (replicate nameLength 0) .answer))
 
 told-if-small : (r : Answer) → toldIf r ≤ 1
 told-if-small (Value v) = cond-elim (λ (n : ℕ). n ≤ 1) (ltb v notHeard) 1 0 (λ _. omega arith) (λ _. omega arith)
@@ -35,7 +35,7 @@ told-if-small (Refused n) = omega arith
 
 pub told-small : (b : List ℕ) (address location : ℕ) → toldCell b address location ≤ 1
 unfolding toldCell
-told-small b address location = told-if-small (numberAnswer b address (cell location))
+told-small b address location = told-if-small (reply b address (cell location) [] .answer)
 
 pub sum-more : (f : ℕ → ℕ) (i : ℕ) → sumTo f (i + 1) ≡ sumTo f i + f i
 unfolding sumTo
@@ -56,7 +56,7 @@ modules-none b = refl
 -- a line is short, or nothing
 module-short : (b : List ℕ) (address : ℕ) → length (moduleText b address) ≤ lineRoom
 unfolding moduleText sheetText
-module-short b address = go (typeAnswer b address)
+module-short b address = go (reply b address type-of [] .answer)
   where
     go : (r : Answer) → length (typedText b address r) ≤ lineRoom
     go (Value kind) = lines-are-short .1 (address % 256) (kind % 256) (wholeNames b address (extentOf (kind % 256) .names)) (toldCells b address (extentOf (kind % 256) .cells))

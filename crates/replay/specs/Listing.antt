@@ -3,11 +3,12 @@ use Prim.Native.Nat.{ℕ, zero, suc, _%_}
 use mathlib.Core.List.{List, [], _++_}
 use mathlib.Core.Bool.{cond}
 use lib.Dec.{eqb}
-use Rattle.picture.specs.declared.Answer.{Answer}
-use Rattle.picture.specs.declared.Answer.the-variants.{Value, Refused}
-use Rattle.picture.specs.Questions.{typeAnswer}
-use Rattle.picture.specs.Limits.{addresses}
-use Rattle.picture.specs.Places.{extentOf}
+use Rattle.places.specs.declared.answers.Answer.{Answer}
+use Rattle.places.specs.declared.answers.Answer.the-variants.{Value, Refused}
+use Rattle.questions.specs.Question.{type-of}
+use Rattle.questions.specs.Replies.{reply}
+use Rattle.places.specs.Limits.{addresses}
+use Rattle.frame.specs.Types.{extentOf}
 use Rattle.replay.specs.declared.window.Stream.{Stream}
 use Rattle.replay.specs.Lines.{header, moduleLine, brokenLine, countLine}
 use Rattle.replay.specs.Sheets.{wholeNames, toldCells}
@@ -24,7 +25,7 @@ typedText b address (Refused n) = []
 
 -- the line of the module at an address
 unfoldable pub moduleText : List ℕ → ℕ → List ℕ
-moduleText b address = typedText b address (typeAnswer b address)
+moduleText b address = typedText b address (reply b address type-of [] .answer)
 
 -- the lines of the modules at the first n addresses
 unfoldable pub modulesText : List ℕ → ℕ → List ℕ

@@ -3,9 +3,9 @@ use Prim.Native.Nat.{ℕ, zero, suc, _+_, _-_}
 use mathlib.Core.List.{List}
 use mathlib.Core.Bool.{Bool, true, false}
 use lib.ListN.{length, take, drop}
-use Rattle.picture.specs.declared.Outcome.{Outcome}
-use Rattle.picture.specs.declared.Outcome.the-variants.{Done, Refused}
-use Rattle.picture.specs.Bytes.{hearing}
+use Rattle.places.specs.declared.answers.Outcome.{Outcome}
+use Rattle.places.specs.declared.answers.Outcome.the-variants.{Done, Refused}
+use Rattle.picture.specs.Hearing.{hearing}
 use Rattle.recording.specs.declared.records.Entry.{Entry}
 use Rattle.recording.specs.declared.records.Entry.the-variants.{Record, End, Broken}
 use Rattle.recording.specs.Record.{readRecord}

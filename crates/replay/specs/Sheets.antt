@@ -1,19 +1,24 @@
 -- What the listing counts of a module.
 use Prim.Native.Nat.{ℕ, _+_}
-use mathlib.Core.List.{List}
-use mathlib.Core.Bool.{cond}
+use mathlib.Core.List.{List, []}
+use mathlib.Core.Bool.{Bool, true, false, cond}
 use lib.Dec.{ltb}
 use lib.ListN.{replicate}
-use Rattle.picture.specs.declared.Answer.{Answer}
-use Rattle.picture.specs.declared.Answer.the-variants.{Value, Refused}
-use Rattle.picture.specs.Limits.{notHeard}
-use Rattle.picture.specs.Places.{cell, nameLength}
-use Rattle.picture.specs.Questions.{numberAnswer, nameWhole, sumTo}
-use Rattle.replay.specs.Replay.{one, isDone}
+use Rattle.places.specs.declared.answers.Answer.{Answer}
+use Rattle.places.specs.declared.answers.Answer.the-variants.{Value, Refused}
+use Rattle.places.specs.Limits.{notHeard}
+use Rattle.places.specs.Places.{nameLength}
+use Rattle.questions.specs.Question.{cell, whole-name}
+use Rattle.questions.specs.Replies.{sumTo, reply}
+use Rattle.replay.specs.Replay.{one}
 
 -- 1 for a name that is whole: the question on it is answered
+abbrev pub isValue : Answer → Bool
+isValue (Value v) = true
+isValue (Refused n) = false
+
 unfoldable pub wholeName : List ℕ → ℕ → ℕ → ℕ
-wholeName b address name = one (isDone (nameWhole b address name (replicate nameLength 0) .outcome))
+wholeName b address name = one (isValue (reply b address (whole-name name) (replicate nameLength 0) .answer))
 
 -- 1 for a value, 0 for not heard and for no place
 abbrev pub toldIf : Answer → ℕ
@@ -22,7 +27,7 @@ toldIf (Refused n) = 0
 
 -- 1 for a cell that is told
 unfoldable pub toldCell : List ℕ → ℕ → ℕ → ℕ
-toldCell b address location = toldIf (numberAnswer b address (cell location))
+toldCell b address location = toldIf (reply b address (cell location) [] .answer)
 
 -- of the names 1 to n, how many are whole
 abbrev pub wholeNames : List ℕ → ℕ → ℕ → ℕ

@@ -3,7 +3,7 @@ use Prim.Native.Nat.{ℕ, _+_, _*_, _≤_}
 use mathlib.Core.Path.{_≡_}
 use mathlib.Core.List.{List, _++_}
 use lib.ListN.{length, take, drop}
-use Rattle.picture.specs.Limits.{addresses}
+use Rattle.places.specs.Limits.{addresses}
 use Rattle.replay.specs.declared.window.Stream.{Stream}
 use Rattle.replay.specs.Text.{Written, letters}
 use Rattle.replay.specs.Lines.{header, moduleLine, brokenLine, countLine}

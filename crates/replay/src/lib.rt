@@ -7,6 +7,7 @@ mod sheets;
 mod text;
 mod window;
 
+pub use listing::LISTING_ROOM;
 pub use listing::put_listing;
 pub use records::Replay;
 pub use records::hear_all;

@@ -7,19 +7,23 @@ use crate::sheets::told_cells;
 use crate::sheets::whole_names;
 use crate::text::clip;
 use crate::window::Stream;
-use picture::Answer;
-ghost use Rattle.picture.specs.Limits.{addresses};
+use laws::wide32;
+use places::ADDRESSES;
+use places::Answer;
+ghost use Rattle.places.specs.Limits.{addresses};
 ghost use Rattle.replay.specs.Text.{Written};
 ghost use Rattle.replay.specs.Listing.{sheetText, moduleText, modulesText, faultText, listingText};
 
-// How many addresses there are.
-const ADDRESSES: u32 = 256;
+// The room that the longest listing takes: that of the longest line for each address and for three lines more.
+const LINE_ROOM: usize = 65;
+
+pub const LISTING_ROOM: usize = LINE_ROOM * (ADDRESSES as usize + 3);
 
 // The line of a listed module.
 fn put_sheet(picture: &[u8], out: &mut [u8], at: usize, address: u32, kind: u8) -> usize
     ensures { λ r. ⌜ Written (now (out .entry)) at (sheetText (now (picture .entry)) address kind) (now (out .exit)) r ⌝ }
 {
-    let extent = picture::extent_of(kind);
+    let extent = frame::extent_of(wide32(kind));
     let names = whole_names(picture, address, extent.names);
     let cells = told_cells(picture, address, extent.cells);
     put_module_line(out, at, (address % 256) as u8, kind, names, cells)
@@ -29,7 +33,7 @@ fn put_sheet(picture: &[u8], out: &mut [u8], at: usize, address: u32, kind: u8) 
 fn put_module(picture: &[u8], out: &mut [u8], at: usize, address: u32) -> usize
     ensures { λ r. ⌜ Written (now (out .entry)) at (moduleText (now (picture .entry)) address) (now (out .exit)) r ⌝ }
 {
-    match picture::type_of(picture, address) {
+    match questions::type_of(picture, address) {
         Answer::Value(kind) => put_sheet(picture, out, at, address, (kind % 256) as u8),
         Answer::Refused(_) => clip(at, out.len()),
     }

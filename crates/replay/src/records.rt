@@ -1,8 +1,8 @@
 // Hearing the records of a slice.
-use picture::Outcome;
+use places::Outcome;
 use recording::Entry;
 ghost use mathlib.Core.Path.{_≡_};
-ghost use Rattle.picture.specs.Bytes.{hearing};
+ghost use Rattle.picture.specs.Hearing.{hearing};
 ghost use Rattle.replay.specs.Replay.{one, isDone, heardBy, replayed};
 
 // The records accepted and refused, the offset of the first byte that is not read as a record, and what is at fault there:

@@ -1,24 +1,21 @@
 // What the listing counts of a module: its whole names, and its told cells.
-use picture::Answer;
-use picture::Outcome;
+use places::Answer;
+use places::NOT_HEARD;
 ghost use mathlib.Core.Path.{_≡_};
 ghost use Prim.Native.Nat.{_+_, _≤_};
 ghost use Rattle.replay.specs.Sheets.{wholeName, toldCell, wholeNames, toldCells};
 
 // The length of a name.
-const NAME_LENGTH: usize = 16;
-
-// The number for a place that is not heard.
-const NOT_HEARD: u16 = 256;
+const NAME_LENGTH: usize = places::NAME_LENGTH as usize;
 
 // 1 for a name that is whole, else 0.
 fn whole_name(picture: &[u8], address: u32, name: u32) -> u64
     ensures { λ r. ⌜ r ≡ wholeName (now (picture .entry)) address name ⌝ }
 {
     let mut characters = [0u8; NAME_LENGTH];
-    match picture::name(picture, address, name, &mut characters) {
-        Outcome::Done => 1,
-        Outcome::Refused(_) => 0,
+    match questions::name(picture, address, name, &mut characters) {
+        Answer::Value(_) => 1,
+        Answer::Refused(_) => 0,
     }
 }
 
@@ -26,7 +23,7 @@ fn whole_name(picture: &[u8], address: u32, name: u32) -> u64
 fn told_cell(picture: &[u8], address: u32, location: u32) -> u64
     ensures { λ r. ⌜ r ≡ toldCell (now (picture .entry)) address location ⌝ }
 {
-    match picture::cell(picture, address, location) {
+    match questions::cell(picture, address, location) {
         Answer::Value(v) => { if v < NOT_HEARD { 1 } else { 0 } }
         Answer::Refused(_) => 0,
     }

@@ -1,5 +1,5 @@
 // Runs the questions that fill a buffer. What a question does not fill stays as it was.
-use crate::pictures::outcome_number;
+use crate::pictures::fill_number;
 use crate::pictures::wide_value;
 use crate::tally::Tally;
 use crate::text::part;
@@ -16,9 +16,9 @@ fn fill_name(picture: &[u8], letter: u8, at: u32, number: u32, room: &mut [u8], 
         return TOO_LONG;
     }
     if letter == b'n' {
-        return outcome_number(picture::name(picture, at, number, &mut room[0..n]));
+        return fill_number(questions::name(picture, at, number, &mut room[0..n]));
     }
-    outcome_number(picture::name_heard(picture, at, number, &mut room[0..n]))
+    fill_number(questions::name_heard(picture, at, number, &mut room[0..n]))
 }
 
 // A name asked for, into a buffer of dots that is as long as what it holds afterwards.
@@ -45,7 +45,7 @@ fn fill_row(picture: &[u8], at: u32, row: &mut [u16], length: u32) -> u32 {
     if n > row.len() {
         return TOO_LONG;
     }
-    outcome_number(picture::memory_row(picture, at, &mut row[0..n]))
+    fill_number(questions::memory_row(picture, at, &mut row[0..n]))
 }
 
 fn entry_at(row: &[u16; ENTRIES], i: u32) -> u32 {
@@ -80,7 +80,7 @@ fn fill_listed(picture: &[u8], row: &mut [u8], length: u32) -> u32 {
     if n > row.len() {
         return TOO_LONG;
     }
-    outcome_number(picture::listed(picture, &mut row[0..n]))
+    fill_number(questions::listed(picture, &mut row[0..n]))
 }
 
 fn mark_at(row: &[u8; ENTRIES], i: u32) -> u32 {

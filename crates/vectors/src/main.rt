@@ -12,9 +12,7 @@ mod words;
 use libc::STDIN_FILENO;
 use tally::Tally;
 
-// The bytes of a picture, and those that the text has room in.
-const PICTURE_SIZE: usize = 17200;
-
+// The bytes that the text has room in.
 const TEXT_ROOM: usize = 65536;
 
 // A text that fills its room may be longer than that, and what is beyond is not read: that is told.
@@ -27,7 +25,7 @@ fn told_whole(t: Tally, n: usize) -> Tally {
 
 fn main() {
     let mut text = [0u8; TEXT_ROOM];
-    let mut picture = [0u8; PICTURE_SIZE];
+    let mut picture = [0u8; picture::SIZE];
     let n = io::read_full(STDIN_FILENO, &mut text);
     let t = statements::run(&text[..n], &mut picture);
     told_whole(t, n).tell();

@@ -2,8 +2,8 @@
 use crate::tally::Tally;
 use crate::words::REFUSED;
 use laws::wide32;
-use picture::Answer;
-use picture::Outcome;
+use places::Answer;
+use places::Outcome;
 
 // A VMB8IR stands at H'2A', a VMB1BL at H'31': 512 × priority + 2 × address, of low priority.
 const IR_LOW: u32 = 1620;
@@ -19,6 +19,14 @@ pub(crate) fn outcome_number(o: Outcome) -> u32 {
 
 pub(crate) fn wide_value(v: u16) -> u32 {
     v as u32
+}
+
+// A question that fills a buffer answers 0, or the refusal's number.
+pub(crate) fn fill_number(a: Answer) -> u32 {
+    match a {
+        Answer::Value(v) => wide_value(v),
+        Answer::Refused(n) => wide32(n),
+    }
 }
 
 fn answer_number(a: Answer) -> u32 {
@@ -62,13 +70,13 @@ pub(crate) fn back(t: Tally, of: &[u8], picture: &mut [u8], number: u32) -> Tall
 // The questions whose answer is a number, by their letters.
 fn answer(picture: &[u8], letter: u8, at: u32, number: u32) -> Answer {
     match letter {
-        b'K' => picture::kept(picture),
-        b'T' => picture::type_of(picture, at),
-        b'Y' => picture::build_year(picture, at),
-        b'E' => picture::build_week(picture, at),
-        b'C' => picture::cell(picture, at, number),
-        b'L' => picture::led(picture, at, number),
-        b'I' => picture::blind(picture, at, number),
+        b'K' => questions::kept(picture),
+        b'T' => questions::type_of(picture, at),
+        b'Y' => questions::build_year(picture, at),
+        b'E' => questions::build_week(picture, at),
+        b'C' => questions::cell(picture, at, number),
+        b'L' => questions::led(picture, at, number),
+        b'I' => questions::blind(picture, at, number),
         _ => Answer::Refused(0),
     }
 }

@@ -3,22 +3,23 @@
 use Prim.Native.Nat.{ℕ, _+_, _*_, _/_, _%_, _<_, _≤_}
 use native.Mathlib.Omega.{arith}
 use mathlib.Core.Path.{_≡_, refl}
-use mathlib.Core.List.{List, _++_}
-use mathlib.Core.Bool.{true}
+use mathlib.Core.List.{List, [], _∷_, _++_}
+use mathlib.Core.Bool.{Bool, true, false, cond}
 use lib.Dec.{eqb}
 use lib.ListN.{length, length-append}
-use borrow.Author.Tests.{eq-eqb, le-ltb}
+use borrow.Author.Tests.{eqb-true, eq-eqb, le-ltb}
+use Rattle.frame.specs.Types.{vmb1bl, vmb8ir}
 use Rattle.frame.specs.declared.identifiers.Address.{Address}
 use Rattle.frame.specs.declared.messages.Time.the-variants.{DipSwitch, Permanently, Seconds}
 use Rattle.frame.specs.declared.messages.Glow.the-variants.{Off, On, Slow, Fast, VeryFast}
 use Rattle.frame.specs.declared.messages.Command.{Command}
-use Rattle.frame.specs.declared.messages.Command.the-variants.{TypeIr, TypeBl, Buttons, CellTold, BlockTold, CellAsked, BlockAsked, DumpAsked, CellSet, BlockSet, Errors, ErrorsAsked, NameOne, NameTwo, NameThree, NameAsked, StatusAsked, InputStatus, LedsAll, Leds, BlindStatus, BlindStop, BlindUp, BlindDown}
+use Rattle.frame.specs.declared.messages.Command.the-variants.{TypeLong, TypeShort, Buttons, CellTold, BlockTold, CellAsked, BlockAsked, DumpAsked, CellSet, BlockSet, Errors, ErrorsAsked, NameOne, NameTwo, NameThree, NameAsked, StatusAsked, InputStatus, LedsAll, Leds, BlindStatus, BlindStop, BlindUp, BlindDown}
 use Rattle.frame.specs.declared.messages.Message.{Message}
 use Rattle.frame.specs.declared.messages.Message.the-variants.{TypeRequest, Tells}
 use Rattle.velbus.specs.declared.parts.Six.{Six}
 use Rattle.velbus.specs.declared.parts.Parts.{Parts}
 use Rattle.velbus.specs.declared.parts.Held.the-variants.{Holds}
-use Rattle.velbus.specs.Parts.{commandParts, partsOf, commandFrom, messageFrom, addressIn, sameSix, sameParts, heldBy}
+use Rattle.velbus.specs.Parts.{noMessage, numberIn, commandParts, partsOf, commandFrom, messageFrom, addressIn, sameSix, sameParts, heldBy}
 use Rattle.velbus.specs.Layout.{messageSize, laidBytes, takenParts, blankBetween, heldIn}
 use Rattle.velbus.specs.Statements.{LaidIsHeld}
 
@@ -27,45 +28,62 @@ use Rattle.velbus.specs.Statements.{LaidIsHeld}
 abbrev Again : Address → Message → Parts → Type 0
 Again a m p = (addressIn p ≡ a) × (messageFrom p ≡ m)
 
-command-again : (a : Address) (m : Command) → Again a (Tells m) (commandParts a m)
-unfolding commandParts messageFrom commandFrom
-command-again a (TypeIr b c d e f) = (refl, refl)
-command-again a (TypeBl b c d) = (refl, refl)
-command-again a (Buttons b c d) = (refl, refl)
-command-again a (CellTold l v) = (refl, refl)
-command-again a (BlockTold l b c d e) = (refl, refl)
-command-again a (CellAsked l) = (refl, refl)
-command-again a (BlockAsked l) = (refl, refl)
-command-again a DumpAsked = (refl, refl)
-command-again a (CellSet l v) = (refl, refl)
-command-again a (BlockSet l b c d e) = (refl, refl)
-command-again a (Errors b c d) = (refl, refl)
-command-again a ErrorsAsked = (refl, refl)
-command-again a (NameOne n b c d e f g) = (refl, refl)
-command-again a (NameTwo n b c d e f g) = (refl, refl)
-command-again a (NameThree n b c d e) = (refl, refl)
-command-again a (NameAsked n) = (refl, refl)
-command-again a (StatusAsked n) = (refl, refl)
-command-again a (InputStatus b c d e) = (refl, refl)
-command-again a (LedsAll b c d) = (refl, refl)
-command-again a (Leds Off mask) = (refl, refl)
-command-again a (Leds On mask) = (refl, refl)
-command-again a (Leds Slow mask) = (refl, refl)
-command-again a (Leds Fast mask) = (refl, refl)
-command-again a (Leds VeryFast mask) = (refl, refl)
-command-again a (BlindStatus n b c d e f g) = (refl, refl)
-command-again a (BlindStop n) = (refl, refl)
-command-again a (BlindUp n DipSwitch) = (refl, refl)
-command-again a (BlindUp n Permanently) = (refl, refl)
-command-again a (BlindUp n (Seconds s)) = (refl, refl)
-command-again a (BlindDown n DipSwitch) = (refl, refl)
-command-again a (BlindDown n Permanently) = (refl, refl)
-command-again a (BlindDown n (Seconds s)) = (refl, refl)
+-- a type that has a number in a table of one line is that line's
+one-type : (t n k : ℕ) → numberIn (record { kind = t; what = n } ∷ []) k < noMessage → k ≡ t
+unfolding numberIn
+one-type t n k = go (eqb k t) (eqb-true k t)
+  where
+    go : (b : Bool) → (b ≡ true → k ≡ t) → cond b n noMessage < noMessage → k ≡ t
+    go true q h = q refl
+    go false q h = absurd (omega arith)
 
-again : (a : Address) (m : Message) → Again a m (partsOf a m)
+long-again : (a : Address) (k b c d e f : ℕ) → k ≡ vmb8ir → Again a (Tells (TypeLong k b c d e f)) (commandParts a (TypeLong k b c d e f))
+unfolding commandParts messageFrom commandFrom numberIn
+long-again a k b c d e f q = rw q (refl, refl)
+
+short-again : (a : Address) (k b c d : ℕ) → k ≡ vmb1bl → Again a (Tells (TypeShort k b c d)) (commandParts a (TypeShort k b c d))
+unfolding commandParts messageFrom commandFrom numberIn
+short-again a k b c d q = rw q (refl, refl)
+
+command-again : (a : Address) (m : Command) → commandParts a m .what < noMessage → Again a (Tells m) (commandParts a m)
+unfolding commandParts messageFrom commandFrom
+command-again a (TypeLong k b c d e f) h = long-again a k b c d e f (one-type vmb8ir 1 k h)
+command-again a (TypeShort k b c d) h = short-again a k b c d (one-type vmb1bl 2 k h)
+command-again a (Buttons b c d) h = (refl, refl)
+command-again a (CellTold l v) h = (refl, refl)
+command-again a (BlockTold l b c d e) h = (refl, refl)
+command-again a (CellAsked l) h = (refl, refl)
+command-again a (BlockAsked l) h = (refl, refl)
+command-again a DumpAsked h = (refl, refl)
+command-again a (CellSet l v) h = (refl, refl)
+command-again a (BlockSet l b c d e) h = (refl, refl)
+command-again a (Errors b c d) h = (refl, refl)
+command-again a ErrorsAsked h = (refl, refl)
+command-again a (NameOne n b c d e f g) h = (refl, refl)
+command-again a (NameTwo n b c d e f g) h = (refl, refl)
+command-again a (NameThree n b c d e) h = (refl, refl)
+command-again a (NameAsked n) h = (refl, refl)
+command-again a (StatusAsked n) h = (refl, refl)
+command-again a (InputStatus b c d e) h = (refl, refl)
+command-again a (LedsAll b c d) h = (refl, refl)
+command-again a (Leds Off mask) h = (refl, refl)
+command-again a (Leds On mask) h = (refl, refl)
+command-again a (Leds Slow mask) h = (refl, refl)
+command-again a (Leds Fast mask) h = (refl, refl)
+command-again a (Leds VeryFast mask) h = (refl, refl)
+command-again a (BlindStatus n b c d e f g) h = (refl, refl)
+command-again a (BlindStop n) h = (refl, refl)
+command-again a (BlindUp n DipSwitch) h = (refl, refl)
+command-again a (BlindUp n Permanently) h = (refl, refl)
+command-again a (BlindUp n (Seconds s)) h = (refl, refl)
+command-again a (BlindDown n DipSwitch) h = (refl, refl)
+command-again a (BlindDown n Permanently) h = (refl, refl)
+command-again a (BlindDown n (Seconds s)) h = (refl, refl)
+
+again : (a : Address) (m : Message) → partsOf a m .what < noMessage → Again a m (partsOf a m)
 unfolding partsOf messageFrom
-again a TypeRequest = (refl, refl)
-again a (Tells m) = command-again a m
+again a TypeRequest h = (refl, refl)
+again a (Tells m) h = command-again a m h
 
 self : (x : ℕ) → eqb x x ≡ true
 self x = eq-eqb x x refl
@@ -79,9 +97,9 @@ unfolding sameParts
 same-self p =
     rw (self (p .what), self (p .address), self (p .channel), self (p .glow), self (p .location), same-six-self (p .bytes), self (p .time), self (p .seconds))
 
-holds-itself : (a : Address) (m : Message) → heldBy (partsOf a m) ≡ Holds a m
+holds-itself : (a : Address) (m : Message) → partsOf a m .what < noMessage → heldBy (partsOf a m) ≡ Holds a m
 unfolding heldBy
-holds-itself a m = let g = again a m in rw (g .0, g .1, same-self (partsOf a m))
+holds-itself a m h = let g = again a m h in rw (g .0, g .1, same-self (partsOf a m))
 
 -- The bytes of some parts are the parts.
 
@@ -122,4 +140,4 @@ laid-long p after = rw (length-append) (omega arith)
 pub laid-is-held : LaidIsHeld
 unfolding heldIn
 laid-is-held a m after f =
-    rw (le-ltb (length (laidBytes (partsOf a m) ++ after)) messageSize (laid-long (partsOf a m) after), blank-laid (partsOf a m) after, taken-again (partsOf a m) after (f .location) (f .seconds)) (holds-itself a m)
+    rw (le-ltb (length (laidBytes (partsOf a m) ++ after)) messageSize (laid-long (partsOf a m) after), blank-laid (partsOf a m) after, taken-again (partsOf a m) after (f .location) (f .seconds)) (holds-itself a m (f .numbered))

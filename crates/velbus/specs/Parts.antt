@@ -4,6 +4,7 @@ use mathlib.Core.List.{List, [], _∷_}
 use mathlib.Core.Bool.{Bool, cond, _&&_}
 use lib.Dec.{eqb}
 use Rattle.laws.specs.Tests.{firstFor}
+use Rattle.frame.specs.Types.{vmb1bl, vmb8ir}
 use Rattle.frame.specs.declared.identifiers.Address.{Address}
 use Rattle.frame.specs.declared.messages.Location.{Location}
 use Rattle.frame.specs.declared.messages.Time.{Time}
@@ -11,10 +12,10 @@ use Rattle.frame.specs.declared.messages.Time.the-variants.{DipSwitch, Permanen
 use Rattle.frame.specs.declared.messages.Glow.{Glow}
 use Rattle.frame.specs.declared.messages.Glow.the-variants.{Off, On, Slow, Fast, VeryFast}
 use Rattle.frame.specs.declared.messages.Command.{Command}
-use Rattle.frame.specs.declared.messages.Command.the-variants.{TypeIr, TypeBl, Buttons, CellTold, BlockTold, CellAsked, BlockAsked, DumpAsked, CellSet, BlockSet, Errors, ErrorsAsked, NameOne, NameTwo, NameThree, NameAsked, StatusAsked, InputStatus, LedsAll, Leds, BlindStatus, BlindStop, BlindUp, BlindDown}
+use Rattle.frame.specs.declared.messages.Command.the-variants.{TypeLong, TypeShort, Buttons, CellTold, BlockTold, CellAsked, BlockAsked, DumpAsked, CellSet, BlockSet, Errors, ErrorsAsked, NameOne, NameTwo, NameThree, NameAsked, StatusAsked, InputStatus, LedsAll, Leds, BlindStatus, BlindStop, BlindUp, BlindDown}
 use Rattle.frame.specs.declared.messages.Message.{Message}
 use Rattle.frame.specs.declared.messages.Message.the-variants.{TypeRequest, Tells}
-use Rattle.picture.specs.Runs.{glowNumber}
+use Rattle.places.specs.Runs.{glowNumber}
 use Rattle.velbus.specs.declared.parts.Six.{Six}
 use Rattle.velbus.specs.declared.parts.Parts.{Parts}
 use Rattle.velbus.specs.declared.parts.Held.{Held}
@@ -62,10 +63,30 @@ abbrev pub timed : ℕ → Address → ℕ → Time → Parts
 timed what a n t =
     record { what = what; address = a .0; channel = n; glow = 0; location = 0; bytes = none; time = timeNumber t; seconds = timeSeconds t }
 
+-- ---- the numbers of the type frames
+-- a line of the table: a type, and the number of its type frame's message
+pub record Numbered : Type 0 where
+  pub kind : ℕ
+  pub what : ℕ
+
+-- the types with a type frame of the long shape, and of the short one
+abbrev pub longTypes : List Numbered
+longTypes = record { kind = vmb8ir; what = 1 } ∷ []
+
+abbrev pub shortTypes : List Numbered
+shortTypes = record { kind = vmb1bl; what = 2 } ∷ []
+
+-- the number that no message has
+abbrev pub noMessage : ℕ
+noMessage = 255
+
+unfoldable pub numberIn : List Numbered → ℕ → ℕ
+numberIn ls kind = firstFor (λ (l : Numbered). l .kind) (λ (l : Numbered). l .what) noMessage ls kind
+
 -- ---- the parts of each message
 unfoldable pub commandParts : Address → Command → Parts
-commandParts a (TypeIr b c d e f) = free 1 a (six b c d e f 0)
-commandParts a (TypeBl b c d) = free 2 a (six b c d 0 0 0)
+commandParts a (TypeLong k b c d e f) = free (numberIn longTypes k) a (six b c d e f 0)
+commandParts a (TypeShort k b c d) = free (numberIn shortTypes k) a (six b c d 0 0 0)
 commandParts a (Buttons b c d) = free 3 a (six b c d 0 0 0)
 commandParts a (CellTold l v) = located 4 a l (six v 0 0 0 0 0)
 commandParts a (BlockTold l b c d e) = located 5 a l (six b c d e 0 0)
@@ -110,8 +131,8 @@ span p = timeFrom (p .time) (p .seconds)
 
 abbrev pub makers : List Maker
 makers =
-    by 1 (λ p. TypeIr (p .bytes .0) (p .bytes .1) (p .bytes .2) (p .bytes .3) (p .bytes .4))
-    ∷ by 2 (λ p. TypeBl (p .bytes .0) (p .bytes .1) (p .bytes .2))
+    by 1 (λ p. TypeLong vmb8ir (p .bytes .0) (p .bytes .1) (p .bytes .2) (p .bytes .3) (p .bytes .4))
+    ∷ by 2 (λ p. TypeShort vmb1bl (p .bytes .0) (p .bytes .1) (p .bytes .2))
     ∷ by 3 (λ p. Buttons (p .bytes .0) (p .bytes .1) (p .bytes .2))
     ∷ by 4 (λ p. CellTold (place p) (p .bytes .0))
     ∷ by 5 (λ p. BlockTold (place p) (p .bytes .0) (p .bytes .1) (p .bytes .2) (p .bytes .3))

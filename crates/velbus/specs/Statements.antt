@@ -12,13 +12,15 @@ use Rattle.frame.specs.declared.writer.Frame.{Frame}
 use Rattle.frame.specs.declared.identifiers.Address.{Address}
 use Rattle.frame.specs.declared.messages.Message.{Message}
 use Rattle.velbus.specs.declared.parts.Held.the-variants.{Holds}
-use Rattle.velbus.specs.Parts.{partsOf}
+use Rattle.velbus.specs.Parts.{noMessage, partsOf}
 use Rattle.velbus.specs.Layout.{messageSize, laidBytes, heldIn}
 use Rattle.velbus.specs.Frames.{frameBytes, frameSize, readInto, writeWord, writeInto}
 use Rattle.velbus.specs.Words.{roomWord}
 
--- the location and the seconds of the message fit their fields, as those of the code's `u16` and `u32` do
+-- the message has a number: the type inside FF is one that the table has for its shape; and its location and seconds fit their fields, as
+-- those of the code's `u16` and `u32` do
 pub record Fitting (a : Address) (m : Message) : Type 0 where
+  pub numbered : partsOf a m .what < noMessage
   pub location : partsOf a m .location < 65536
   pub seconds : partsOf a m .seconds < 4294967296
 

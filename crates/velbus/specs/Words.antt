@@ -3,10 +3,10 @@ use Prim.Native.Nat.{ℕ, _*_}
 use mathlib.Core.Bool.{cond}
 use lib.Dec.{leb}
 use Rattle.laws.specs.Refusals.{tooShort}
-use Rattle.picture.specs.declared.Outcome.{Outcome}
-use Rattle.picture.specs.declared.Outcome.the-variants as o
-use Rattle.picture.specs.declared.Answer.{Answer}
-use Rattle.picture.specs.declared.Answer.the-variants as a
+use Rattle.places.specs.declared.answers.Outcome.{Outcome}
+use Rattle.places.specs.declared.answers.Outcome.the-variants as o
+use Rattle.places.specs.declared.answers.Answer.{Answer}
+use Rattle.places.specs.declared.answers.Answer.the-variants as a
 
 -- how many values there are
 abbrev pub values : ℕ

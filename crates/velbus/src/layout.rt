@@ -4,10 +4,10 @@ use crate::parts::Parts;
 use crate::parts::Six;
 use crate::parts::held_by;
 use laws::both;
-use laws::wide16;
-use laws::wide32;
+use laws::number16;
+use laws::number32;
 ghost use mathlib.Core.Path.{_≡_};
-ghost use Prim.Native.Nat.{_+_, _*_, _≤_};
+ghost use Prim.Native.Nat.{_≤_};
 ghost use lib.ListN.{length};
 ghost use Rattle.velbus.specs.Layout.{messageSize, laidBytes, takenParts, blankBetween, heldIn};
 
@@ -39,18 +39,6 @@ pub fn laid(p: Parts) -> [u8; 20]
         (p.seconds / 65536 % 256) as u8,
         (p.seconds / 16777216 % 256) as u8,
     ]
-}
-
-fn number16(low: u8, high: u8) -> u16
-    ensures { λ r. ⌜ r ≡ low + 256 * high ⌝ }
-{
-    wide16(low) + 256 * wide16(high)
-}
-
-fn number32(a: u8, b: u8, c: u8, d: u8) -> u32
-    ensures { λ r. ⌜ r ≡ a + 256 * b + 65536 * c + 16777216 * d ⌝ }
-{
-    wide32(a) + 256 * wide32(b) + 65536 * wide32(c) + 16777216 * wide32(d)
 }
 
 fn taken(b: &[u8]) -> Parts

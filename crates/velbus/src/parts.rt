@@ -5,8 +5,10 @@ use frame::Glow;
 use frame::Location;
 use frame::Message;
 use frame::Time;
+use frame::VMB1BL;
+use frame::VMB8IR;
 use laws::both;
-use picture::glow_number;
+use places::glow_number;
 ghost use mathlib.Core.Path.{_≡_};
 ghost use Rattle.velbus.specs.Parts.{
   glowFrom,
@@ -18,6 +20,9 @@ ghost use Rattle.velbus.specs.Parts.{
   channelled,
   glowing,
   timed,
+  longTypes,
+  shortTypes,
+  numberIn,
   commandParts,
   partsOf,
   commandFrom,
@@ -41,6 +46,14 @@ pub struct Parts {
     pub time: u8,
     pub seconds: u32,
 }
+
+// The type numbers as they stand in a frame.
+const LONG_TYPE: u8 = VMB8IR as u8;
+
+const SHORT_TYPE: u8 = VMB1BL as u8;
+
+// The number that no message has.
+const NO_MESSAGE: u8 = 255;
 
 // The message that some parts are, with its address.
 pub enum Held {
@@ -165,12 +178,31 @@ fn timed(what: u8, a: Address, channel: u8, t: Time) -> Parts
     }
 }
 
+// The number of a type frame's message, by the type that stands in it, for each shape.
+fn long_number(kind: u8) -> u8
+    ensures { λ r. ⌜ r ≡ numberIn longTypes kind ⌝ }
+{
+    match kind {
+        LONG_TYPE => 1,
+        _ => NO_MESSAGE,
+    }
+}
+
+fn short_number(kind: u8) -> u8
+    ensures { λ r. ⌜ r ≡ numberIn shortTypes kind ⌝ }
+{
+    match kind {
+        SHORT_TYPE => 2,
+        _ => NO_MESSAGE,
+    }
+}
+
 fn command_parts(a: Address, m: Command) -> Parts
     ensures { λ r. ⌜ r ≡ commandParts a m ⌝ }
 {
     match m {
-        Command::TypeIr(b, c, d, e, f) => free(1, a, Six(b, c, d, e, f, 0)),
-        Command::TypeBl(b, c, d) => free(2, a, Six(b, c, d, 0, 0, 0)),
+        Command::TypeLong(k, b, c, d, e, f) => free(long_number(k), a, Six(b, c, d, e, f, 0)),
+        Command::TypeShort(k, b, c, d) => free(short_number(k), a, Six(b, c, d, 0, 0, 0)),
         Command::Buttons(b, c, d) => free(3, a, Six(b, c, d, 0, 0, 0)),
         Command::CellTold(l, v) => located(4, a, l, Six(v, 0, 0, 0, 0, 0)),
         Command::BlockTold(l, b, c, d, e) => located(5, a, l, Six(b, c, d, e, 0, 0)),
@@ -215,8 +247,8 @@ fn command_from(p: Parts) -> Command
     let g = glow_from(p.glow);
     let what = p.what;
     match what {
-        1 => Command::TypeIr(s.0, s.1, s.2, s.3, s.4),
-        2 => Command::TypeBl(s.0, s.1, s.2),
+        1 => Command::TypeLong(LONG_TYPE, s.0, s.1, s.2, s.3, s.4),
+        2 => Command::TypeShort(SHORT_TYPE, s.0, s.1, s.2),
         3 => Command::Buttons(s.0, s.1, s.2),
         4 => Command::CellTold(l, s.0),
         5 => Command::BlockTold(l, s.0, s.1, s.2, s.3),

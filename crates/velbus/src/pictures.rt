@@ -2,17 +2,20 @@
 use crate::words::answer_word;
 use crate::words::outcome_word;
 ghost use mathlib.Core.Path.{_≡_};
-ghost use Rattle.picture.specs.Layout.{size};
-ghost use Rattle.picture.specs.Places.{year, week, cell, led, blind};
-ghost use Rattle.picture.specs.Bytes.{hearing, steppingBack, freshening};
-ghost use Rattle.picture.specs.Questions.{keptAnswer, typeAnswer, numberAnswer, listing, nameHeard, nameWhole, memoryBytes};
+ghost use mathlib.Core.List.{[]};
+ghost use Rattle.places.specs.Layout.{size};
+ghost use Rattle.picture.specs.Hearing.{hearing};
+ghost use Rattle.picture.specs.Stepping.{steppingBack};
+ghost use Rattle.picture.specs.Fresh.{freshening};
+ghost use Rattle.questions.specs.Question.{type-of, build-year, build-week, cell, led, blind, name-heard, whole-name, memory-bytes};
+ghost use Rattle.questions.specs.Replies.{keptAnswer, listing, reply};
 ghost use Rattle.velbus.specs.Words.{outcomeWord, answerWord};
 
 #[no_mangle]
 pub extern "C" fn velbus_picture_size() -> u32
     ensures { λ r. ⌜ r ≡ size ⌝ }
 {
-    picture::picture_size() as u32
+    picture::SIZE as u32
 }
 
 #[no_mangle]
@@ -43,79 +46,79 @@ pub extern "C" fn velbus_step_back(picture: &mut [u8]) -> u32
 pub extern "C" fn velbus_kept(picture: &[u8]) -> u32
     ensures { λ r. ⌜ r ≡ answerWord (keptAnswer (now (picture .entry))) ⌝ }
 {
-    answer_word(picture::kept(picture))
+    answer_word(questions::kept(picture))
 }
 
 #[no_mangle]
 pub extern "C" fn velbus_listed(picture: &[u8], out: &mut [u8]) -> u32
-    ensures { λ r. ⌜ r ≡ outcomeWord (listing (now (picture .entry)) (now (out .entry)) .outcome) ⌝ }
+    ensures { λ r. ⌜ r ≡ answerWord (listing (now (picture .entry)) (now (out .entry)) .answer) ⌝ }
     ensures { λ _. ⌜ now (out .exit) ≡ listing (now (picture .entry)) (now (out .entry)) .buffer ⌝ }
 {
-    outcome_word(picture::listed(picture, out))
+    answer_word(questions::listed(picture, out))
 }
 
 #[no_mangle]
 pub extern "C" fn velbus_type(picture: &[u8], address: u32) -> u32
-    ensures { λ r. ⌜ r ≡ answerWord (typeAnswer (now (picture .entry)) address) ⌝ }
+    ensures { λ r. ⌜ r ≡ answerWord (reply (now (picture .entry)) address type-of [] .answer) ⌝ }
 {
-    answer_word(picture::type_of(picture, address))
+    answer_word(questions::type_of(picture, address))
 }
 
 #[no_mangle]
 pub extern "C" fn velbus_build_year(picture: &[u8], address: u32) -> u32
-    ensures { λ r. ⌜ r ≡ answerWord (numberAnswer (now (picture .entry)) address year) ⌝ }
+    ensures { λ r. ⌜ r ≡ answerWord (reply (now (picture .entry)) address build-year [] .answer) ⌝ }
 {
-    answer_word(picture::build_year(picture, address))
+    answer_word(questions::build_year(picture, address))
 }
 
 #[no_mangle]
 pub extern "C" fn velbus_build_week(picture: &[u8], address: u32) -> u32
-    ensures { λ r. ⌜ r ≡ answerWord (numberAnswer (now (picture .entry)) address week) ⌝ }
+    ensures { λ r. ⌜ r ≡ answerWord (reply (now (picture .entry)) address build-week [] .answer) ⌝ }
 {
-    answer_word(picture::build_week(picture, address))
+    answer_word(questions::build_week(picture, address))
 }
 
 #[no_mangle]
 pub extern "C" fn velbus_cell(picture: &[u8], address: u32, location: u32) -> u32
-    ensures { λ r. ⌜ r ≡ answerWord (numberAnswer (now (picture .entry)) address (cell location)) ⌝ }
+    ensures { λ r. ⌜ r ≡ answerWord (reply (now (picture .entry)) address (cell location) [] .answer) ⌝ }
 {
-    answer_word(picture::cell(picture, address, location))
+    answer_word(questions::cell(picture, address, location))
 }
 
 #[no_mangle]
 pub extern "C" fn velbus_led(picture: &[u8], address: u32, number: u32) -> u32
-    ensures { λ r. ⌜ r ≡ answerWord (numberAnswer (now (picture .entry)) address (led number)) ⌝ }
+    ensures { λ r. ⌜ r ≡ answerWord (reply (now (picture .entry)) address (led number) [] .answer) ⌝ }
 {
-    answer_word(picture::led(picture, address, number))
+    answer_word(questions::led(picture, address, number))
 }
 
 #[no_mangle]
 pub extern "C" fn velbus_blind(picture: &[u8], address: u32, number: u32) -> u32
-    ensures { λ r. ⌜ r ≡ answerWord (numberAnswer (now (picture .entry)) address (blind number)) ⌝ }
+    ensures { λ r. ⌜ r ≡ answerWord (reply (now (picture .entry)) address (blind number) [] .answer) ⌝ }
 {
-    answer_word(picture::blind(picture, address, number))
+    answer_word(questions::blind(picture, address, number))
 }
 
 #[no_mangle]
 pub extern "C" fn velbus_name_heard(picture: &[u8], address: u32, name: u32, out: &mut [u8]) -> u32
-    ensures { λ r. ⌜ r ≡ outcomeWord (nameHeard (now (picture .entry)) address name (now (out .entry)) .outcome) ⌝ }
-    ensures { λ _. ⌜ now (out .exit) ≡ nameHeard (now (picture .entry)) address name (now (out .entry)) .buffer ⌝ }
+    ensures { λ r. ⌜ r ≡ answerWord (reply (now (picture .entry)) address (name-heard name) (now (out .entry)) .answer) ⌝ }
+    ensures { λ _. ⌜ now (out .exit) ≡ reply (now (picture .entry)) address (name-heard name) (now (out .entry)) .buffer ⌝ }
 {
-    outcome_word(picture::name_heard(picture, address, name, out))
+    answer_word(questions::name_heard(picture, address, name, out))
 }
 
 #[no_mangle]
 pub extern "C" fn velbus_name(picture: &[u8], address: u32, name: u32, out: &mut [u8]) -> u32
-    ensures { λ r. ⌜ r ≡ outcomeWord (nameWhole (now (picture .entry)) address name (now (out .entry)) .outcome) ⌝ }
-    ensures { λ _. ⌜ now (out .exit) ≡ nameWhole (now (picture .entry)) address name (now (out .entry)) .buffer ⌝ }
+    ensures { λ r. ⌜ r ≡ answerWord (reply (now (picture .entry)) address (whole-name name) (now (out .entry)) .answer) ⌝ }
+    ensures { λ _. ⌜ now (out .exit) ≡ reply (now (picture .entry)) address (whole-name name) (now (out .entry)) .buffer ⌝ }
 {
-    outcome_word(picture::name(picture, address, name, out))
+    answer_word(questions::name(picture, address, name, out))
 }
 
 #[no_mangle]
 pub extern "C" fn velbus_memory_row(picture: &[u8], address: u32, out: &mut [u8]) -> u32
-    ensures { λ r. ⌜ r ≡ outcomeWord (memoryBytes (now (picture .entry)) address (now (out .entry)) .outcome) ⌝ }
-    ensures { λ _. ⌜ now (out .exit) ≡ memoryBytes (now (picture .entry)) address (now (out .entry)) .buffer ⌝ }
+    ensures { λ r. ⌜ r ≡ answerWord (reply (now (picture .entry)) address memory-bytes (now (out .entry)) .answer) ⌝ }
+    ensures { λ _. ⌜ now (out .exit) ≡ reply (now (picture .entry)) address memory-bytes (now (out .entry)) .buffer ⌝ }
 {
-    outcome_word(picture::memory_bytes(picture, address, out))
+    answer_word(questions::memory_bytes(picture, address, out))
 }

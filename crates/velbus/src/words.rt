@@ -1,8 +1,8 @@
 // The result word: bits 0 to 15 the value, bits 16 to 23 the refusal number.
 use laws::TOO_SHORT;
 use laws::wide32;
-use picture::Answer;
-use picture::Outcome;
+use places::Answer;
+use places::Outcome;
 ghost use mathlib.Core.Path.{_≡_};
 ghost use Rattle.velbus.specs.Words.{refusedWord, outcomeWord, answerWord, roomWord};
 

@@ -4,7 +4,7 @@ use Rattle.picture.proofs.commands.character_in.Statement.{statement}
 use Rattle.picture.proofs.commands.character_in.Tie as tie
 
 returns : tie.Need-returns
-returns c = rw (← c .before .before .byte-at .ensures, ← c .before .name-of .ensures) (c .character-place .ensures)
+returns c = rw (← (rw (c .before .before .before .wide32 .ensures, c .before .before .byte-at .ensures) at (c .before .name-of .ensures))) (c .character-place .ensures)
 
 pub character-in-spec : {M : Type 1} → statement M
-character-in-spec = tie.close (tie.spec (λ c κs. search needs) (λ c κs. search needs) (λ c κs. search needs) returns)
+character-in-spec = tie.close (tie.spec (λ c κs. search needs) (λ c κs. search needs) (λ c κs. search needs) (λ c κs. search needs) returns)

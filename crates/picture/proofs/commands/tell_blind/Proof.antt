@@ -1,35 +1,37 @@
 -- `picture::commands::tell_blind` meets its contract. Assumes nothing.
+use mathlib.Core.Path.{refl}
 use borrow.Author.Needs.{needs}
 use Rattle.laws.proofs.Keys.{not-among}
-use Rattle.picture.specs.Runs.{runOf, blindCommands}
-use Rattle.picture.proofs.CodeCommands.{told-as, told-none}
+use Rattle.places.specs.Runs.{meaningOf}
+use Rattle.picture.specs.Commands.{blindCommands}
+use Rattle.picture.proofs.Meant.{told-as, told-none}
 use Rattle.picture.proofs.commands.tell_blind.Statement.{statement}
 use Rattle.picture.proofs.commands.tell_blind.Tie as tie
 
 returns : tie.Need-returns
-unfolding runOf
+unfolding meaningOf
 returns c = let s = c .before .before .before .before .before .before .before .before in
-    told-as (s .args .kind) (s .args .«data» .now) 0xEC (s .pre .0 .2) (c .before .before .before .before .before .match .keys1) (s .args .picture .now) (s .args .slot) (rw (← c .before .before .before .byte-at .ensures) (c .before .before .tell-one .ensures))
+    told-as (s .args .kind) (s .args .«data» .now) 0xEC (s .pre .0 .2) (c .before .before .before .before .before .match .keys1) (s .args .picture .now) (s .args .slot) (s .pre .0 .1) refl (rw (← c .before .before .before .byte-at .ensures) (c .before .before .tell-one .ensures))
 
 returns-2 : tie.Need-returns-2
-unfolding runOf
+unfolding meaningOf
 returns-2 c = let s = c .before .before .before .before .before .before .before in
-    told-as (s .args .kind) (s .args .«data» .now) 0x04 (s .pre .0 .2) (c .before .before .before .before .match .keys2) (s .args .picture .now) (s .args .slot) (c .before .before .ask-one .ensures)
+    told-as (s .args .kind) (s .args .«data» .now) 0x04 (s .pre .0 .2) (c .before .before .before .before .match .keys2) (s .args .picture .now) (s .args .slot) (s .pre .0 .1) refl (c .before .before .ask-one .ensures)
 
 returns-3 : tie.Need-returns-3
-unfolding runOf
+unfolding meaningOf
 returns-3 c = let s = c .before .before .before .before .before .before .before in
-    told-as (s .args .kind) (s .args .«data» .now) 0x05 (s .pre .0 .2) (c .before .before .before .before .match .keys3) (s .args .picture .now) (s .args .slot) (c .before .before .ask-one2 .ensures)
+    told-as (s .args .kind) (s .args .«data» .now) 0x05 (s .pre .0 .2) (c .before .before .before .before .match .keys3) (s .args .picture .now) (s .args .slot) (s .pre .0 .1) refl (c .before .before .ask-one2 .ensures)
 
 returns-4 : tie.Need-returns-4
-unfolding runOf
+unfolding meaningOf
 returns-4 c = let s = c .before .before .before .before .before .before .before in
-    told-as (s .args .kind) (s .args .«data» .now) 0x06 (s .pre .0 .2) (c .before .before .before .before .match .keys4) (s .args .picture .now) (s .args .slot) (c .before .before .ask-one3 .ensures)
+    told-as (s .args .kind) (s .args .«data» .now) 0x06 (s .pre .0 .2) (c .before .before .before .before .match .keys4) (s .args .picture .now) (s .args .slot) (s .pre .0 .1) refl (c .before .before .ask-one3 .ensures)
 
 returns-5 : tie.Need-returns-5
 returns-5 c = let s = c .before .before .before .before .before .before .before in
     let n = s .pre .1 .1 in
-    told-none (s .args .kind) (s .args .«data» .now) (s .args .picture .now) (s .args .slot) (s .pre .0 .2) (n .0, n .1, n .2, n .3, not-among _ blindCommands (c .before .before .before .before .match .rest)) (c .before .before .tell-none .ensures)
+    told-none (s .args .kind) (s .args .«data» .now) (s .args .picture .now) (s .args .slot) (s .pre .0 .1) (s .pre .0 .2) (n .0, n .1, n .2, n .3, not-among _ blindCommands (c .before .before .before .before .match .rest)) (c .before .before .pass .ensures)
 
 pub tell-blind-spec : {M : Type 1} → statement M
 tell-blind-spec =

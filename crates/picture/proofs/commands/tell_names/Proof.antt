@@ -1,28 +1,33 @@
 -- `picture::commands::tell_names` meets its contract. Assumes nothing.
+use mathlib.Core.Path.{refl}
 use borrow.Author.Needs.{needs}
 use native.Mathlib.Omega.{arith}
 use Rattle.laws.proofs.Keys.{not-among}
-use Rattle.picture.specs.Runs.{runOf, nameCommands}
-use Rattle.picture.proofs.CodeCommands.{told-as, fits-by}
+use Rattle.places.specs.Runs.{meaningOf}
+use Rattle.picture.specs.Commands.{nameCommands}
+use Rattle.picture.proofs.Meant.{told-as, fits-by, long}
 use Rattle.picture.proofs.commands.tell_names.Statement.{statement}
 use Rattle.picture.proofs.commands.tell_names.Tie as tie
 
 tell-six-requires : tie.Need-tell-six-requires
-unfolding runOf
+unfolding meaningOf
 tell-six-requires c κs = let s = c .before .before .before .before .before in
     let f = fits-by (s .args .kind) (s .args .«data» .now) 0xF0 (s .pre .0 .2) (c .before .before .match .keys1) (s .pre .1 .0) in
+    let l = long 0xF0 8 refl (s .args .kind) (s .args .«data» .now) (c .before .before .match .keys1) (s .pre .1 .1 .2) (s .pre .1 .1 .3) in
     omega (arith, c .character-in .ensures)
 
 tell-six-requires-2 : tie.Need-tell-six-requires-2
-unfolding runOf
+unfolding meaningOf
 tell-six-requires-2 c κs = let s = c .before .before .before .before .before in
     let f = fits-by (s .args .kind) (s .args .«data» .now) 0xF1 (s .pre .0 .2) (c .before .before .match .keys2) (s .pre .1 .0) in
+    let l = long 0xF1 8 refl (s .args .kind) (s .args .«data» .now) (c .before .before .match .keys2) (s .pre .1 .1 .2) (s .pre .1 .1 .3) in
     omega (arith, c .character-in2 .ensures)
 
-tell-last-part-requires : tie.Need-tell-last-part-requires
-unfolding runOf
-tell-last-part-requires c κs = let s = c .before .before .before .before .before in
+tell-four-requires : tie.Need-tell-four-requires
+unfolding meaningOf
+tell-four-requires c κs = let s = c .before .before .before .before .before in
     let f = fits-by (s .args .kind) (s .args .«data» .now) 0xF2 (s .pre .0 .2) (c .before .before .match .keys3) (s .pre .1 .0) in
+    let l = long 0xF2 6 refl (s .args .kind) (s .args .«data» .now) (c .before .before .match .keys3) (s .pre .1 .1 .2) (s .pre .1 .1 .3) in
     omega (arith, c .character-in3 .ensures)
 
 tell-lights-requires : tie.Need-tell-lights-requires
@@ -31,19 +36,19 @@ tell-lights-requires c κs = let s = c .before .before .before .before in
     (s .pre .0, (s .pre .1 .0, (n .0, not-among _ nameCommands (c .before .match .rest), n .1)))
 
 returns : tie.Need-returns
-unfolding runOf
+unfolding meaningOf
 returns c = let s = c .before .before .before .before .before .before .before .before in
-    told-as (s .args .kind) (s .args .«data» .now) 0xF0 (s .pre .0 .2) (c .before .before .before .before .before .match .keys1) (s .args .picture .now) (s .args .slot) (rw (← c .before .before .before .character-in .ensures) (c .before .before .tell-six .ensures))
+    told-as (s .args .kind) (s .args .«data» .now) 0xF0 (s .pre .0 .2) (c .before .before .before .before .before .match .keys1) (s .args .picture .now) (s .args .slot) (s .pre .0 .1) refl (rw (← c .before .before .before .character-in .ensures) (c .before .before .tell-six .ensures))
 
 returns-2 : tie.Need-returns-2
-unfolding runOf
+unfolding meaningOf
 returns-2 c = let s = c .before .before .before .before .before .before .before .before in
-    told-as (s .args .kind) (s .args .«data» .now) 0xF1 (s .pre .0 .2) (c .before .before .before .before .before .match .keys2) (s .args .picture .now) (s .args .slot) (rw (← c .before .before .before .character-in2 .ensures) (c .before .before .tell-six2 .ensures))
+    told-as (s .args .kind) (s .args .«data» .now) 0xF1 (s .pre .0 .2) (c .before .before .before .before .before .match .keys2) (s .args .picture .now) (s .args .slot) (s .pre .0 .1) refl (rw (← c .before .before .before .character-in2 .ensures) (c .before .before .tell-six2 .ensures))
 
 returns-3 : tie.Need-returns-3
-unfolding runOf
+unfolding meaningOf
 returns-3 c = let s = c .before .before .before .before .before .before .before .before in
-    told-as (s .args .kind) (s .args .«data» .now) 0xF2 (s .pre .0 .2) (c .before .before .before .before .before .match .keys3) (s .args .picture .now) (s .args .slot) (rw (← c .before .before .before .character-in3 .ensures) (c .before .before .tell-last-part .ensures))
+    told-as (s .args .kind) (s .args .«data» .now) 0xF2 (s .pre .0 .2) (c .before .before .before .before .before .match .keys3) (s .args .picture .now) (s .args .slot) (s .pre .0 .1) refl (rw (← c .before .before .before .character-in3 .ensures) (c .before .before .tell-four .ensures))
 
 pub tell-names-spec : {M : Type 1} → statement M
 tell-names-spec =
@@ -54,7 +59,7 @@ tell-names-spec =
     (λ c κs. search needs)
     tell-six-requires-2
     (λ c κs. search needs)
-    tell-last-part-requires
+    tell-four-requires
     tell-lights-requires
     (λ c. search needs)
     returns

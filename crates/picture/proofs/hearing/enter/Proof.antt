@@ -1,9 +1,14 @@
 -- `picture::hearing::enter` meets its contract. Assumes nothing.
 use native.Mathlib.Omega.{arith}
 use borrow.Author.Needs.{needs}
-use Rattle.picture.specs.Bytes.{modulesOf, enteredBytes}
+use Rattle.places.specs.Head.{modulesOf}
+use Rattle.picture.specs.Hearing.{enteredBytes}
+use Rattle.picture.proofs.Storing.{next-small}
 use Rattle.picture.proofs.hearing.enter.Statement.{statement}
 use Rattle.picture.proofs.hearing.enter.Tie as tie
+
+note-requires : tie.Need-note-requires
+note-requires c κs = omega (arith, next-small (c .before .before .before .before .before .before .args .picture .now))
 
 list-at-requires : tie.Need-list-at-requires
 unfolding modulesOf
@@ -11,16 +16,9 @@ list-at-requires c κs = omega arith
 
 returns : tie.Need-returns
 unfolding enteredBytes
-returns c = rw (← c .before .before .before .before .before .before .before .before .before .before .before .before .before .before .before .before .modules-of .ensures, ← c .before .before .before .before .before .before .before .before .before .before .before .before .before .before .open-entry .ensures, ← c .before .before .before .before .before .before .before .before .before .before .new-record .ensures, ← c .before .before .before .before .before .before .list-at .ensures) (c .before .before .step-on .ensures)
+returns c =
+    rw (← c .before .before .before .before .before .before .before .before .before .before .before .before .before .before .before .before .before .before .modules-of .ensures, ← c .before .before .before .before .before .before .before .before .before .before .before .before .before .before .before .before .next-of .ensures, ← c .before .before .before .before .before .before .before .before .before .before .before .before .before .before .note .ensures, ← c .before .before .before .before .before .before .before .before .before .before .new-record .ensures, ← c .before .before .before .before .before .before .list-at .ensures)
+    (c .before .before .step-on .ensures)
 
 pub enter-spec : {M : Type 1} → statement M
-enter-spec =
-    tie.close
-    (tie.spec
-    (λ c κs. search needs)
-    (λ c κs. search needs)
-    (λ c κs. search needs)
-    list-at-requires
-    (λ c κs. search needs)
-    (λ c. search needs)
-    returns)
+enter-spec = tie.close (tie.spec (λ c κs. search needs) (λ c κs. search needs) note-requires (λ c κs. search needs) list-at-requires (λ c κs. search needs) (λ c. search needs) returns)

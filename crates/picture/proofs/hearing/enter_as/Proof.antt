@@ -2,46 +2,36 @@
 use native.Mathlib.Omega.{arith}
 use borrow.Author.Tests.{lt-ltb, le-ltb, eq-eqb, ne-eqb}
 use borrow.Author.Needs.{needs}
-use Rattle.picture.specs.Limits.{room}
-use Rattle.picture.specs.Bytes.{entering}
+use Rattle.places.specs.Limits.{room}
+use Rattle.picture.specs.Hearing.{naming, entering}
 use Rattle.picture.proofs.hearing.enter_as.Statement.{statement}
 use Rattle.picture.proofs.hearing.enter_as.Tie as tie
 
 returns : tie.Need-returns
-unfolding entering
-returns c = let listed = lt-ltb _ _ (c .before .before .before .before .before .if1 .taken) in
+unfolding entering naming
+returns c =
+    let listed = lt-ltb _ _ (c .before .before .before .before .before .if1 .taken) in
     (rw listed, rw (listed, eq-eqb _ _ (c .before .before .before .before .if2 .taken)) (c .before .before .tell-build .ensures))
 
 returns-2 : tie.Need-returns-2
 unfolding entering
-returns-2 c = let listed = lt-ltb _ _ (c .before .before .before .before .before .if1 .taken) in
+returns-2 c =
+    let listed = lt-ltb _ _ (c .before .before .before .before .before .if1 .taken) in
     (rw listed, rw (listed, ne-eqb _ _ (c .before .before .before .before .if2 .left)) (c .before .before .exchange .ensures))
 
 returns-3 : tie.Need-returns-3
 unfolding entering
-returns-3 c = let unlisted = le-ltb _ _ (c .before .before .before .before .before .before .before .if1 .left) in
+returns-3 c =
+    let unlisted = le-ltb _ _ (c .before .before .before .before .before .before .before .if1 .left) in
     let free = lt-ltb (c .before .before .before .before .before .modules-of .result) room (omega arith) in
     (rw (unlisted, ← c .before .before .before .before .before .modules-of .ensures, free), rw (unlisted, ← c .before .before .before .before .before .modules-of .ensures, free) (c .before .before .enter .ensures))
 
 returns-4 : tie.Need-returns-4
 unfolding entering
-returns-4 c = let unlisted = le-ltb _ _ (c .before .before .before .if1 .left) in
+returns-4 c =
+    let unlisted = le-ltb _ _ (c .before .before .before .if1 .left) in
     let full = le-ltb (c .before .modules-of .result) room (omega arith) in
     (rw (unlisted, ← c .before .modules-of .ensures, full), rw (unlisted, ← c .before .modules-of .ensures, full))
 
 pub enter-as-spec : {M : Type 1} → statement M
-enter-as-spec =
-    tie.close
-    (tie.spec
-    (λ c κs. search needs)
-    (λ c. search needs)
-    returns
-    (λ c κs. search needs)
-    (λ c. search needs)
-    returns-2
-    (λ c κs. search needs)
-    (λ c κs. search needs)
-    (λ c. search needs)
-    returns-3
-    (λ c. search needs)
-    returns-4)
+enter-as-spec = tie.close (tie.spec (λ c κs. search needs) (λ c. search needs) returns (λ c κs. search needs) (λ c. search needs) returns-2 (λ c κs. search needs) (λ c κs. search needs) (λ c. search needs) returns-3 (λ c. search needs) returns-4)

@@ -1,6 +1,6 @@
 -- `picture::hearing::exchange` meets its contract. Assumes nothing.
 use borrow.Author.Needs.{needs}
-use Rattle.picture.specs.Bytes.{exchangedBytes}
+use Rattle.picture.specs.Hearing.{exchangedBytes}
 use Rattle.picture.proofs.hearing.exchange.Statement.{statement}
 use Rattle.picture.proofs.hearing.exchange.Tie as tie
 

@@ -1,7 +1,7 @@
 -- `picture::hearing::list_at` meets its contract. Assumes nothing.
 use native.Mathlib.Numerals.{add-one}
 use borrow.Author.Needs.{needs}
-use Rattle.picture.specs.Bytes.{listedAt}
+use Rattle.picture.specs.Hearing.{listedAt}
 use Rattle.picture.proofs.hearing.list_at.Statement.{statement}
 use Rattle.picture.proofs.hearing.list_at.Tie as tie
 

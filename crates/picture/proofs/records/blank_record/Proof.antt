@@ -1,6 +1,6 @@
 -- `picture::records::blank_record` meets its contract. Assumes nothing.
 use borrow.Author.Needs.{needs}
-use Rattle.picture.specs.Bytes.{blankRecord}
+use Rattle.picture.specs.Hearing.{blankRecord}
 use Rattle.picture.proofs.records.blank_record.Statement.{statement}
 use Rattle.picture.proofs.records.blank_record.Tie as tie
 

@@ -1,21 +1,30 @@
 -- `picture::stepping::back_over` meets its contract. Assumes nothing.
+use native.Mathlib.Omega.{arith}
+use Prim.Native.Nat.{_+_, _%_}
+use mathlib.Core.Path.{_≡_}
 use borrow.Author.Needs.{needs}
-use Rattle.picture.specs.Bytes.{backOver}
+use lib.ListN.{getD}
+use Rattle.places.specs.Limits.{ring}
+use Rattle.places.specs.Layout.{nextAt}
+use Rattle.places.specs.Head.{nextOf, before}
+use Rattle.picture.specs.Stepping.{backOver}
 use Rattle.picture.proofs.stepping.back_over.Statement.{statement}
 use Rattle.picture.proofs.stepping.back_over.Tie as tie
 
 returns : tie.Need-returns
-unfolding backOver
-returns c = rw (← c .before .before .before .before .before .before .before .before .before .before .before .before .before .kept-of .ensures, ← c .before .before .before .before .before .before .before .before .before .before .before .before .one-fewer .ensures, ← c .before .before .before .before .before .before .before .before .before .before .undo .ensures, ← c .before .before .before .before .before .before .put-at .ensures) (c .before .before .put-at2 .ensures)
+unfolding backOver nextOf
+returns c =
+    let last : before (nextOf (c .before .before .before .before .before .before .before .before .before .before .before .before .before .before .before .before .before .before .before .args .picture .now)) ≡ (getD (c .before .before .before .before .before .before .before .before .before .before .before .before .before .before .before .before .before .before .before .args .picture .now) nextAt 0 + 255) % 256 % ring = omega arith in
+    rw (
+      last,
+      ← c .before .before .before .before .before .before .before .before .before .before .before .before .before .byte-at .ensures,
+      ← c .before .before .before .before .before .before .before .before .before .before .before .before .wrapping-add-u8 .ensures,
+      ← c .before .before .before .before .before .before .before .before .before .before .undo .ensures,
+      ← c .before .before .before .before .before .before .before .before .before .before .before .before .before .before .before .before .kept-of .ensures,
+      ← c .before .before .before .before .before .before .before .before .before .before .before .before .before .before .before .one-fewer .ensures,
+      ← c .before .before .before .before .before .before .put-at .ensures,
+    )
+    (c .before .before .put-at2 .ensures)
 
 pub back-over-spec : {M : Type 1} → statement M
-back-over-spec =
-    tie.close
-    (tie.spec
-    (λ c κs. search needs)
-    (λ c κs. search needs)
-    (λ c κs. search needs)
-    (λ c κs. search needs)
-    (λ c κs. search needs)
-    (λ c. search needs)
-    returns)
+back-over-spec = tie.close (tie.spec (λ c κs. search needs) (λ c κs. search needs) (λ c κs. search needs) (λ c κs. search needs) (λ c κs. search needs) (λ c κs. search needs) (λ c κs. search needs) (λ c. search needs) returns)

@@ -2,7 +2,7 @@
 use mathlib.Core.Path.{sym, _∙_}
 use borrow.Author.Tests.{lt-ltb, le-ltb, eq-eqb, ne-eqb}
 use borrow.Author.Needs.{needs}
-use Rattle.picture.specs.Bytes.{steppingBack}
+use Rattle.picture.specs.Stepping.{steppingBack}
 use Rattle.picture.proofs.stepping.step_back.Statement.{statement}
 use Rattle.picture.proofs.stepping.step_back.Tie as tie
 
@@ -18,9 +18,9 @@ returns-2 c = let long = le-ltb _ _ (c .before .before .before .if1 .left) in
 
 returns-3 : tie.Need-returns-3
 unfolding steppingBack
-returns-3 c = let long = le-ltb _ _ (c .before .before .before .before .before .before .before .before .before .before .if1 .left) in
-    let some = ne-eqb _ _ (λ e. c .before .before .before .before .before .before .before .if2 .left (c .before .before .before .before .before .before .before .before .kept-of .ensures ∙ e)) in
-    (rw (long, some), rw (long, some, ← c .before .before .before .before .before .next-of .ensures, ← c .before .before .before .before .entry-before .ensures) (c .before .before .back-over .ensures))
+returns-3 c = let long = le-ltb _ _ (c .before .before .before .before .before .before .before .if1 .left) in
+    let some = ne-eqb _ _ (λ e. c .before .before .before .before .if2 .left (c .before .before .before .before .before .kept-of .ensures ∙ e)) in
+    (rw (long, some), rw (long, some) (c .before .before .back-over .ensures))
 
 pub step-back-spec : {M : Type 1} → statement M
 step-back-spec =
@@ -30,8 +30,6 @@ step-back-spec =
     (λ c κs. search needs)
     (λ c. search needs)
     returns-2
-    (λ c κs. search needs)
-    (λ c κs. search needs)
     (λ c κs. search needs)
     (λ c. search needs)
     returns-3)

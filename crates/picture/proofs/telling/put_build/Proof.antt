@@ -1,6 +1,6 @@
 -- `picture::telling::put_build` meets its contract. Assumes nothing.
 use borrow.Author.Needs.{needs}
-use Rattle.picture.specs.Bytes.{putAt, written}
+use Rattle.picture.specs.Stores.{putAt, written}
 use Rattle.picture.proofs.telling.put_build.Statement.{statement}
 use Rattle.picture.proofs.telling.put_build.Tie as tie
 

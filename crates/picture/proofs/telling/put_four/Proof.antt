@@ -1,9 +1,9 @@
 -- `picture::telling::put_four` meets its contract. Assumes nothing.
 use mathlib.Core.List.{[], _∷_}
 use borrow.Author.Needs.{needs}
-use Rattle.picture.specs.Bytes.{putAt, written}
-use Rattle.picture.specs.Runs.{tells}
-use Rattle.picture.proofs.CodeRuns.{written-also}
+use Rattle.picture.specs.Stores.{putAt, written}
+use Rattle.places.specs.Runs.{tells}
+use Rattle.picture.proofs.Storing.{written-also}
 use Rattle.picture.proofs.telling.put_four.Statement.{statement}
 use Rattle.picture.proofs.telling.put_four.Tie as tie
 

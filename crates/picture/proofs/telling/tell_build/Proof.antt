@@ -1,14 +1,12 @@
 -- `picture::telling::tell_build` meets its contract. Assumes nothing.
 use mathlib.Core.Path.{refl}
 use borrow.Author.Needs.{needs}
-use Rattle.picture.specs.Runs.{sayings, sayingsFrom}
-use Rattle.picture.proofs.CodeRuns.{told-by}
+use Rattle.picture.proofs.Storing.{told-by}
 use Rattle.picture.proofs.telling.tell_build.Statement.{statement}
 use Rattle.picture.proofs.telling.tell_build.Tie as tie
 
 returns : tie.Need-returns
-unfolding sayings sayingsFrom
-returns c = told-by _ _ _ (c .before .before .before .before .before .before .before .before .before .before .save-two .ensures) refl (c .before .before .before .before .before .before .put-build .ensures) (c .before .before .step-on .ensures)
+returns c = told-by _ _ _ (c .before .before .before .before .before .before .before .before .before .before .save .ensures) refl (c .before .before .before .before .before .before .put-build .ensures) (c .before .before .step-on .ensures)
 
 pub tell-build-spec : {M : Type 1} → statement M
 tell-build-spec =

@@ -1,13 +1,11 @@
 -- `picture::telling::tell_four` meets its contract. Assumes nothing.
 use borrow.Author.Needs.{needs}
-use Rattle.picture.specs.Runs.{sayings, sayingsFrom}
-use Rattle.picture.proofs.CodeRuns.{told-by}
+use Rattle.picture.proofs.Storing.{told-by}
 use Rattle.picture.proofs.telling.tell_four.Statement.{statement}
 use Rattle.picture.proofs.telling.tell_four.Tie as tie
 
 returns : tie.Need-returns
-unfolding sayings sayingsFrom
-returns c = told-by _ _ _ (c .before .before .before .before .before .before .before .before .before .before .before .save-four .ensures) (c .before .before .before .before .before .before .before .place-at .ensures) (c .before .before .before .before .before .before .put-four .ensures) (c .before .before .step-on .ensures)
+returns c = told-by _ _ _ (c .before .before .before .before .before .before .before .before .before .before .before .before .before .before .before .save .ensures) (c .before .before .before .before .before .before .before .before .before .before .before .place-at .ensures) (c .before .before .before .before .before .before .put-four .ensures) (c .before .before .step-on .ensures)
 
 pub tell-four-spec : {M : Type 1} → statement M
 tell-four-spec =
@@ -15,6 +13,13 @@ tell-four-spec =
     (tie.spec
     (λ c κs. search needs)
     (λ c κs. search needs)
+    (λ c. search needs)
+    (λ c. search needs)
+    (λ c. search needs)
+    (λ c. search needs)
+    (λ c. search needs)
+    (λ c. search needs)
+    (λ c. search needs)
     (λ c κs. search needs)
     (λ c κs. search needs)
     (λ c. search needs)

@@ -1,14 +1,13 @@
 -- `picture::telling::tell_one` meets its contract. Assumes nothing.
 use borrow.Author.Needs.{needs}
-use Rattle.picture.specs.Bytes.{putAt, written}
-use Rattle.picture.specs.Runs.{sayings, sayingsFrom}
-use Rattle.picture.proofs.CodeRuns.{told-by}
+use Rattle.picture.specs.Stores.{putAt, written}
+use Rattle.picture.proofs.Storing.{told-by}
 use Rattle.picture.proofs.telling.tell_one.Statement.{statement}
 use Rattle.picture.proofs.telling.tell_one.Tie as tie
 
 returns : tie.Need-returns
-unfolding written putAt sayings sayingsFrom
-returns c = told-by _ _ _ (c .before .before .before .before .before .before .before .before .before .before .before .save-one .ensures) (c .before .before .before .before .before .before .before .place-at .ensures) (c .before .before .before .before .before .before .put-pair .ensures) (c .before .before .step-on .ensures)
+unfolding written putAt
+returns c = told-by _ _ _ (c .before .before .before .before .before .before .before .before .before .before .before .save .ensures) (c .before .before .before .before .before .before .before .place-at .ensures) (c .before .before .before .before .before .before .put-pair .ensures) (c .before .before .step-on .ensures)
 
 pub tell-one-spec : {M : Type 1} → statement M
 tell-one-spec =

@@ -1,20 +1,21 @@
 -- `picture::telling::tell_some_leds` meets its contract. Assumes nothing.
 use borrow.Author.Needs.{needs}
-use Rattle.picture.specs.Bytes.{written}
-use Rattle.picture.specs.Runs.{someLeds, sayings, sayingsFrom}
-use Rattle.picture.proofs.CodeRuns.{written-also, told-by}
+use Rattle.picture.specs.Stores.{written}
+use Rattle.laws.specs.Tab.{tab}
+use Rattle.places.specs.Runs.{ledIf}
+use Rattle.picture.proofs.Storing.{written-also, told-by}
 use Rattle.picture.proofs.telling.tell_some_leds.Statement.{statement}
 use Rattle.picture.proofs.telling.tell_some_leds.Tie as tie
 
 returns : tie.Need-returns
-unfolding written sayings sayingsFrom
+unfolding written tab
 returns c = let p8 = c .before .before .before .before .before .before in
     let p4 = p8 .before .before .before .before in
     let place = p4 .before .before in
     let a = place .before .before .before .before .before .before .args in
-    let row = sayings (someLeds (a .mask) (a .state)) in
-    let eight = written-also (place .before .before .before .save-eight .last .0) (place .place-at .result) row 4 4 (p4 .put-some .ensures) (p8 .put-some2 .ensures) in
-    told-by _ _ _ (place .before .before .before .save-eight .ensures) (place .place-at .ensures) eight (c .before .before .step-on .ensures)
+    let row = tab 8 (ledIf (a .mask) (a .state)) in
+    let eight = written-also (place .before .before .before .save .last .0) (place .place-at .result) row 4 4 (p4 .put-some .ensures) (p8 .put-some2 .ensures) in
+    told-by _ _ _ (place .before .before .before .save .ensures) (place .place-at .ensures) eight (c .before .before .step-on .ensures)
 
 pub tell-some-leds-spec : {M : Type 1} → statement M
 tell-some-leds-spec =

@@ -1,8 +1,10 @@
 -- `recording::writes::fill` meets its contract. Assumes nothing.
+use Prim.Native.Nat.{_+_}
 use mathlib.Core.Path.{_∙_}
 use native.Mathlib.Omega.{arith}
 use borrow.Author.Needs.{needs}
-use lib.ListN.{length, length-set}
+use lib.ListN.{length, set, length-set}
+use Rattle.laws.proofs.Copying.{copied-all}
 use Rattle.recording.proofs.Writing.{ranged, record-length, sets-record}
 use Rattle.recording.proofs.writes.fill.Statement.{statement}
 use Rattle.recording.proofs.writes.fill.Tie as tie
@@ -41,29 +43,25 @@ slice-write-out c =
     let n = record-length (a .gap) (a .identifier) (a .remote) (a .«data» .now) in
     omega (arith, c .before .before .put-number2 .ensures .0, c .before .before .put-number2 .kept .0, c .before .before .before .before .before .before .put-number .ensures .0, c .before .before .before .before .before .before .put-number .kept .0)
 
-add-put-data : tie.Need-add-put-data
-add-put-data c =
+add-copy-in : tie.Need-add-copy-in
+add-copy-in c =
     let a = c .before .before .before .before .before .before .before .before .before .before .before .args in
     let n = record-length (a .gap) (a .identifier) (a .remote) (a .«data» .now) in
     omega (arith, c .before .before .before .put-number2 .ensures .0, c .before .before .before .put-number2 .kept .0, c .before .before .before .before .before .before .before .put-number .ensures .0, c .before .before .before .before .before .before .before .put-number .kept .0)
 
-put-data-requires : tie.Need-put-data-requires
-put-data-requires c κs =
-    let a = c .before .before .before .before .before .before .before .before .before .before .before .args in
-    let n = record-length (a .gap) (a .identifier) (a .remote) (a .«data» .now) in
-    simp length-set (omega (arith, c .before .before .before .put-number2 .ensures .0, c .before .before .before .put-number2 .kept .0, c .before .before .before .before .before .before .before .put-number .ensures .0, c .before .before .before .before .before .before .before .put-number .kept .0))
-
 same-length : tie.Need-same-length
-same-length c = c .before .before .put-data .kept .0 ∙ (simp length-set (c .before .before .before .before .before .before .put-number2 .kept .0 ∙ c .before .before .before .before .before .before .before .before .before .before .put-number .kept .0))
+same-length c = c .before .before .copy-in .kept .0 ∙ (simp length-set (c .before .before .before .before .before .before .put-number2 .kept .0 ∙ c .before .before .before .before .before .before .before .before .before .before .put-number .kept .0))
 
 returns : tie.Need-returns
 returns c =
     let a = c .before .before .before .before .before .before .before .before .before .before .before .before .before .before .args in
     let p = c .before .before .before .before .before .before .before .before .before .before .put-number in
     let q = c .before .before .before .before .before .before .put-number2 in
-    let d = c .before .before .put-data in
+    let d = c .before .before .copy-in in
+    let n = record-length (a .gap) (a .identifier) (a .remote) (a .«data» .now) in
     sets-record (a .out .now) (a .«data» .now) (a .gap) (a .identifier) (a .remote) (p .result) (q .result) (p .last .0) (q .last .0) (d .last .0)
-    (p .ensures .0) (q .ensures .0) (p .ensures .1) (q .ensures .1) (d .ensures)
+    (p .ensures .0) (q .ensures .0) (p .ensures .1) (q .ensures .1)
+    (d .ensures ∙ copied-all (set (q .last .0) (q .result) (length (a .«data» .now))) (q .result + 1) (a .«data» .now) (simp length-set (omega (arith, q .ensures .0, q .kept .0, p .ensures .0, p .kept .0))))
 
 pub fill-spec : {M : Type 1} → statement M
 fill-spec =
@@ -76,7 +74,7 @@ fill-spec =
     put-number-requires-2
     cast-out
     slice-write-out
-    add-put-data
-    put-data-requires
+    add-copy-in
+    (λ c κs. search needs)
     same-length
     returns)

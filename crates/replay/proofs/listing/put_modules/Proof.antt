@@ -5,7 +5,7 @@ use mathlib.Core.List.{List}
 use native.Mathlib.Omega.{arith}
 use borrow.Author.Needs.{needs}
 use lib.ListN.{length}
-use Rattle.picture.specs.Limits.{addresses}
+use Rattle.places.specs.Limits.{addresses}
 use Rattle.replay.specs.Text.{Written}
 use Rattle.replay.specs.Listing.{modulesText}
 use Rattle.replay.proofs.Texts.{followed, nothing}

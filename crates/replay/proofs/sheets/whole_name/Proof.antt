@@ -1,19 +1,19 @@
 -- `replay::sheets::whole_name` meets its contract. Assumes nothing.
 use mathlib.Core.Path.{ap, sym, _∙_}
 use borrow.Author.Needs.{needs}
-use Rattle.picture.specs.declared.Outcome.{Outcome}
-use Rattle.replay.specs.Replay.{one, isDone}
-use Rattle.replay.specs.Sheets.{wholeName}
+use Rattle.places.specs.declared.answers.Answer.{Answer}
+use Rattle.replay.specs.Replay.{one}
+use Rattle.replay.specs.Sheets.{isValue, wholeName}
 use Rattle.replay.proofs.sheets.whole_name.Statement.{statement}
 use Rattle.replay.proofs.sheets.whole_name.Tie as tie
 
 returns : tie.Need-returns
 unfolding wholeName
-returns c = ap (λ (o : Outcome). one (isDone o)) (sym (c .enum-told .given .1) ∙ c .before .before .before .name .ensures .0)
+returns c = ap (λ (r : Answer). one (isValue r)) (sym (c .enum-told .given .1) ∙ c .before .before .before .name .ensures .0)
 
 returns-2 : tie.Need-returns-2
 unfolding wholeName
-returns-2 c = ap (λ (o : Outcome). one (isDone o)) (sym (c .enum-told2 .given .1) ∙ c .before .before .before .name .ensures .0)
+returns-2 c = ap (λ (r : Answer). one (isValue r)) (sym (c .enum-told2 .given .1) ∙ c .before .before .before .name .ensures .0)
 
 pub whole-name-spec : {M : Type 1} → statement M
 whole-name-spec =

@@ -6,11 +6,11 @@ use Rattle.velbus.proofs.parts.command_parts.Tie as tie
 
 returns : tie.Need-returns
 unfolding commandParts
-returns c = rw (c .before .before .m .given .1, c .free .ensures)
+returns c = rw (c .before .before .before .m .given .1, c .free .ensures, c .before .long-number .ensures)
 
 returns-2 : tie.Need-returns-2
 unfolding commandParts
-returns-2 c = rw (c .before .before .m2 .given .1, c .free2 .ensures)
+returns-2 c = rw (c .before .before .before .m2 .given .1, c .free2 .ensures, c .before .short-number .ensures)
 
 returns-3 : tie.Need-returns-3
 unfolding commandParts
@@ -106,7 +106,9 @@ command-parts-spec =
     (tie.spec
     (λ c. search needs)
     (λ c κs. search needs)
+    (λ c κs. search needs)
     (λ c. search needs)
+    (λ c κs. search needs)
     (λ c κs. search needs)
     (λ c. search needs)
     (λ c κs. search needs)

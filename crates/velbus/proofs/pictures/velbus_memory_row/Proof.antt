@@ -4,7 +4,7 @@ use Rattle.velbus.proofs.pictures.velbus_memory_row.Statement.{statemen
 use Rattle.velbus.proofs.pictures.velbus_memory_row.Tie as tie
 
 returns : tie.Need-returns
-returns c = let filled = c .before .before .before .memory-bytes .ensures in (rw (← filled .0) (c .outcome-word .ensures), filled .1)
+returns c = let filled = c .before .before .before .memory-bytes .ensures in (rw (← filled .0) (c .answer-word .ensures), filled .1)
 
 pub velbus-memory-row-spec : {M : Type 1} → statement M
 velbus-memory-row-spec = tie.close (tie.spec (λ c κs. search needs) (λ c κs. search needs) (λ c. search needs) returns)

@@ -4,7 +4,7 @@ use Rattle.velbus.proofs.pictures.velbus_name_heard.Statement.{statemen
 use Rattle.velbus.proofs.pictures.velbus_name_heard.Tie as tie
 
 returns : tie.Need-returns
-returns c = (rw (← c .before .before .before .name-heard .ensures .0) (c .outcome-word .ensures), c .before .before .before .name-heard .ensures .1)
+returns c = (rw (← c .before .before .before .name-heard .ensures .0) (c .answer-word .ensures), c .before .before .before .name-heard .ensures .1)
 
 pub velbus-name-heard-spec : {M : Type 1} → statement M
 velbus-name-heard-spec =

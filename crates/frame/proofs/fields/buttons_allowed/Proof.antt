@@ -1,0 +1,47 @@
+-- `frame::fields::buttons_allowed` meets its contract.
+-- Assumes nothing.
+use Prim.Native.Nat.{ℕ, _/_, _%_, _<_}
+use mathlib.Core.Path.{_≡_, refl, sym}
+use mathlib.Core.Bool.{Bool, true, false, _&&_}
+use lib.Dec.{eqb, ltb}
+use Rattle.frame.proofs.Listed.{other-line}
+use Rattle.frame.specs.Bytes.{bits}
+use Rattle.frame.specs.Types.{lineOf, channelsOf, blindChannels}
+use Rattle.frame.specs.Fields.{clearBits, buttonsAllowed}
+use Rattle.laws.proofs.Keys.{below}
+use mathlib.Core.List.{[]}
+use native.Mathlib.Omega.{arith}
+use borrow.Author.Needs.{needs}
+use Rattle.frame.proofs.fields.buttons_allowed.Statement.{statement}
+use Rattle.frame.proofs.fields.buttons_allowed.Tie as tie
+
+abbrev same : Bool → Bool → Bool
+same true b = b
+same false true = false
+same false false = true
+
+same-is : (a b : Bool) → same a b ≡ true → a ≡ b
+same-is true b e = sym e
+same-is false true e = e
+same-is false false e = refl
+
+of-blind : (x : ℕ) → x < 256 → (ltb x 64 && eqb (x / 4 % 4) 0) ≡ clearBits blindChannels bits x
+of-blind x h = same-is _ _ (below (λ x. same (ltb x 64 && eqb (x / 4 % 4) 0) (clearBits blindChannels bits x)) 256 refl x h)
+
+of-none : (x : ℕ) → x < 256 → eqb x 0 ≡ clearBits [] bits x
+of-none x h = same-is _ _ (below (λ x. same (eqb x 0) (clearBits [] bits x)) 256 refl x h)
+
+returns : tie.Need-returns
+unfolding buttonsAllowed lineOf
+returns c = rw (c .before .match .keys1, c .both .ensures) (of-blind (c .before .before .args .x) (omega arith))
+
+returns-2 : tie.Need-returns-2
+unfolding buttonsAllowed lineOf
+returns-2 c = rw (c .match .keys2)
+
+returns-3 : tie.Need-returns-3
+unfolding buttonsAllowed
+returns-3 c = rw (other-line (c .before .args .kind) (c .match .rest), channelsOf) (of-none (c .before .args .x) (omega arith))
+
+pub buttons-allowed-spec : {M : Type 1} → statement M
+buttons-allowed-spec = tie.close (tie.spec (λ c κs. search needs) returns returns-2 returns-3)

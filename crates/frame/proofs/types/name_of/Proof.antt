@@ -1,0 +1,41 @@
+-- `frame::types::name_of` meets its contract.
+-- Assumes nothing.
+use Rattle.frame.proofs.Listed.{other-line}
+use native.Mathlib.Omega.{arith}
+use native.Mathlib.Numerals.{add-one}
+use Rattle.frame.specs.Bytes.{bits}
+use Rattle.frame.specs.Types.{nameOf, lineOf, channelsOf, positionIn, blindChannels}
+use Rattle.frame.proofs.Positions.{position-most}
+use borrow.Author.Needs.{needs}
+use Rattle.frame.proofs.types.name_of.Statement.{statement}
+use Rattle.frame.proofs.types.name_of.Tie as tie
+
+add-result : tie.Need-add-result
+add-result c = omega (arith, c .blind-position .ensures, position-most blindChannels (c .before .before .args .channel))
+
+add-result-2 : tie.Need-add-result-2
+add-result-2 c = omega (arith, c .bit-position .ensures, position-most bits (c .before .before .args .channel))
+
+returns : tie.Need-returns
+unfolding nameOf lineOf
+returns c = rw (c .before .match .keys1, add-one, c .blind-position .ensures)
+
+returns-2 : tie.Need-returns-2
+unfolding nameOf lineOf
+returns-2 c = rw (c .before .match .keys2, add-one, c .bit-position .ensures)
+
+returns-3 : tie.Need-returns-3
+unfolding nameOf positionIn
+returns-3 c = rw (other-line (c .before .args .kind) (c .match .rest), channelsOf)
+
+pub name-of-spec : {M : Type 1} → statement M
+name-of-spec =
+    tie.close
+    (tie.spec
+    (λ c κs. search needs)
+    add-result
+    (λ c κs. search needs)
+    add-result-2
+    returns
+    returns-2
+    returns-3)

@@ -1,0 +1,50 @@
+-- `frame::types::vmb8ir` meets its contract.
+-- Assumes nothing.
+use Rattle.laws.proofs.Keys.{passed-over}
+use Rattle.frame.specs.Types.{Entry, noRow, everyType, vmb8irOnly}
+use mathlib.Core.Path.{sym, _∙_}
+use borrow.Author.Needs.{needs}
+use Rattle.frame.proofs.types.vmb8ir.Statement.{statement}
+use Rattle.frame.proofs.types.vmb8ir.Tie as tie
+
+returns : tie.Need-returns
+returns c = rw (c .match .keys1)
+
+returns-2 : tie.Need-returns-2
+returns-2 c = rw (c .match .keys2)
+
+returns-3 : tie.Need-returns-3
+returns-3 c = rw (c .match .keys3)
+
+returns-4 : tie.Need-returns-4
+returns-4 c = rw (c .match .keys4)
+
+returns-5 : tie.Need-returns-5
+returns-5 c = rw (c .match .keys5)
+
+returns-6 : tie.Need-returns-6
+returns-6 c = rw (c .match .keys6)
+
+returns-7 : tie.Need-returns-7
+returns-7 c = rw (c .match .keys7)
+
+returns-8 : tie.Need-returns-8
+returns-8 c = rw (c .match .keys8)
+
+returns-9 : tie.Need-returns-9
+returns-9 c = c .every-type .ensures ∙ sym (passed-over (λ (e : Entry). e .command) (λ (e : Entry). e .listed) noRow vmb8irOnly everyType (c .before .before .args .command) (c .before .match .rest))
+
+pub vmb8ir-spec : {M : Type 1} → statement M
+vmb8ir-spec =
+    tie.close
+    (tie.spec
+    (λ c κs. search needs)
+    returns
+    returns-2
+    returns-3
+    returns-4
+    returns-5
+    returns-6
+    returns-7
+    returns-8
+    returns-9)

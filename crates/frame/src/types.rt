@@ -1,0 +1,193 @@
+// The module types: for each command of a type its length and its priority, and how much the type has.
+use crate::bytes::bit_position;
+use crate::identifiers::HIGH;
+use crate::identifiers::LOW;
+ghost use mathlib.Core.Path.{_≡_};
+ghost use mathlib.Core.List.{_++_};
+ghost use Prim.Native.Nat.{_-_};
+ghost use Rattle.laws.specs.Tests.{among};
+ghost use Rattle.frame.specs.Types.{
+  moduleTypes,
+  handedTypes,
+  everyType,
+  vmb8irOnly,
+  vmb1blOnly,
+  find,
+  rowFor,
+  lastCell,
+  lastStart,
+  extentOf,
+  blindChannels,
+  positionIn,
+  nameOf,
+};
+
+pub const NO_TYPE: u32 = 0x00;
+
+pub const VMB1BL: u32 = 0x03;
+
+pub const VMB8IR: u32 = 0x0A;
+
+// A command's length and its priority; length 0 where the type has no such command.
+pub struct Row(pub usize, pub u32);
+
+// How much a type has.
+pub struct Extent {
+    pub cells: u32,
+    pub names: u32,
+    pub leds: u32,
+    pub blinds: u32,
+}
+
+pub fn module_type(kind: u32) -> bool
+    ensures { λ r. ⌜ r ≡ among kind moduleTypes ⌝ }
+{
+    match kind {
+        VMB1BL => true,
+        VMB8IR => true,
+        _ => false,
+    }
+}
+
+// A type that may be handed in: none, or a module's.
+pub fn handed_type(kind: u32) -> bool
+    ensures { λ r. ⌜ r ≡ among kind handedTypes ⌝ }
+{
+    if kind == NO_TYPE {
+        true
+    } else {
+        module_type(kind)
+    }
+}
+
+fn every_type(command: u8) -> Row
+    ensures { λ r. ⌜ r ≡ find everyType command ⌝ }
+{
+    match command {
+        0x00 => Row(4, HIGH),
+        0xFE => Row(4, LOW),
+        0xCC => Row(7, LOW),
+        0xDA => Row(4, LOW),
+        0xF0 => Row(8, LOW),
+        0xF1 => Row(8, LOW),
+        0xF2 => Row(6, LOW),
+        0xEF => Row(2, LOW),
+        0xFA => Row(2, LOW),
+        0xFD => Row(3, LOW),
+        0xC9 => Row(3, LOW),
+        0xCB => Row(1, LOW),
+        0xFC => Row(4, LOW),
+        0xCA => Row(7, LOW),
+        0xD9 => Row(1, LOW),
+        _ => Row(0, HIGH),
+    }
+}
+
+fn vmb8ir(command: u8) -> Row
+    ensures { λ r. ⌜ r ≡ find (vmb8irOnly ++ everyType) command ⌝ }
+{
+    match command {
+        0xFF => Row(7, LOW),
+        0xEB => Row(5, LOW),
+        0xF4 => Row(4, LOW),
+        0xF5 => Row(2, LOW),
+        0xF6 => Row(2, LOW),
+        0xF7 => Row(2, LOW),
+        0xF8 => Row(2, LOW),
+        0xF9 => Row(2, LOW),
+        _ => every_type(command),
+    }
+}
+
+fn vmb1bl(command: u8) -> Row
+    ensures { λ r. ⌜ r ≡ find (vmb1blOnly ++ everyType) command ⌝ }
+{
+    match command {
+        0xFF => Row(5, LOW),
+        0xEC => Row(8, LOW),
+        0x04 => Row(2, HIGH),
+        0x05 => Row(5, HIGH),
+        0x06 => Row(5, HIGH),
+        _ => every_type(command),
+    }
+}
+
+pub fn row_for(kind: u32, command: u8) -> Row
+    ensures { λ r. ⌜ r ≡ rowFor kind command ⌝ }
+{
+    match kind {
+        VMB1BL => vmb1bl(command),
+        VMB8IR => vmb8ir(command),
+        _ => Row(0, HIGH),
+    }
+}
+
+pub fn extent_of(kind: u32) -> Extent
+    ensures { λ r. ⌜ r ≡ extentOf kind ⌝ }
+{
+    match kind {
+        VMB1BL => Extent {
+            cells: 128,
+            names: 3,
+            leds: 0,
+            blinds: 1,
+        },
+        VMB8IR => Extent {
+            cells: 256,
+            names: 8,
+            leds: 8,
+            blinds: 0,
+        },
+        _ => Extent {
+            cells: 0,
+            names: 0,
+            leds: 0,
+            blinds: 0,
+        },
+    }
+}
+
+// The cell so many before the end; the first where there are not so many.
+fn from_end(cells: u32, n: u32) -> u32
+    ensures { λ r. ⌜ r ≡ cells - n ⌝ }
+{
+    if cells < n { 0 } else { cells - n }
+}
+
+pub fn last_cell(kind: u32) -> u32
+    ensures { λ r. ⌜ r ≡ lastCell kind ⌝ }
+{
+    let e = extent_of(kind);
+    from_end(e.cells, 1)
+}
+
+// The last cell that a block of four can start at.
+pub fn last_start(kind: u32) -> u32
+    ensures { λ r. ⌜ r ≡ lastStart kind ⌝ }
+{
+    let e = extent_of(kind);
+    from_end(e.cells, 4)
+}
+
+// The blind, the up button and the down button.
+fn blind_position(channel: u8) -> u8
+    ensures { λ r. ⌜ r ≡ positionIn blindChannels channel ⌝ }
+{
+    match channel {
+        0x03 => 0,
+        0x10 => 1,
+        0x20 => 2,
+        _ => 3,
+    }
+}
+
+// The number of a channel's name, from 1; one more than the type has where it has no such channel.
+pub fn name_of(kind: u32, channel: u8) -> u8
+    ensures { λ r. ⌜ r ≡ nameOf kind channel ⌝ }
+{
+    match kind {
+        VMB1BL => blind_position(channel) + 1,
+        VMB8IR => bit_position(channel) + 1,
+        _ => 1,
+    }
+}

@@ -1,0 +1,3 @@
+pub mod CodePlaces
+pub mod Readers
+pub mod Fitting

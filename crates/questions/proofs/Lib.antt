@@ -1,0 +1,5 @@
+pub mod Replying
+pub mod Extents
+pub mod Filling
+pub mod Naming
+pub mod Runs

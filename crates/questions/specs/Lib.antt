@@ -1,0 +1,4 @@
+-- Read in this order.
+pub mod Question
+pub mod Fills
+pub mod Replies

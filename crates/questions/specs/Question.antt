@@ -1,0 +1,35 @@
+-- Every question on an address, and what is given back. Assumes nothing.
+use Prim.Native.Nat.{ℕ}
+use mathlib.Core.List.{List}
+use Rattle.places.specs.declared.answers.Answer.{Answer}
+use Rattle.places.specs.declared.answers.Answer.the-variants.{Value, Refused}
+
+-- LEDs, blinds and names are counted from 1, cells by their location
+pub data Question : Type 0 where
+  type-of : Question
+  build-year : Question
+  build-week : Question
+  cell : ℕ → Question
+  led : ℕ → Question
+  blind : ℕ → Question
+  -- which of the sixteen characters of a name are heard, and the whole name
+  name-heard : ℕ → Question
+  whole-name : ℕ → Question
+  -- the memory as a row of numbers, and the same row as bytes
+  memory-row : Question
+  memory-bytes : Question
+
+-- the answer, and the final contents of the buffer that the caller lent
+pub record Reply : Type 0 where
+  pub answer : Answer
+  pub buffer : List ℕ
+
+-- a number, a buffer that was filled (0), a refusal: the last two give back the buffer as it was but for what was filled
+abbrev pub value : ℕ → List ℕ → Reply
+value n out = record { answer = Value n; buffer = out }
+
+abbrev pub filled : List ℕ → Reply
+filled out = value 0 out
+
+abbrev pub refusing : ℕ → List ℕ → Reply
+refusing n out = record { answer = Refused n; buffer = out }

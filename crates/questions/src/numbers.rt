@@ -1,0 +1,131 @@
+// Questions whose answer is a number.
+use crate::asking::number_at;
+use crate::asking::slot_asked;
+use laws::NO_SUCH_PLACE;
+use laws::TOO_SHORT;
+use laws::TYPE_NOT_KNOWN;
+use laws::wide16;
+use places::Answer;
+use places::PLACES;
+use places::ROOM;
+use places::SIZE;
+use places::WEEK;
+use places::YEAR;
+use places::blind_asked;
+use places::cell_asked;
+use places::kept_of;
+use places::kind_in;
+use places::led_asked;
+use places::place_at;
+ghost use mathlib.Core.Path.{_≡_};
+ghost use mathlib.Core.Bool.{cond};
+ghost use mathlib.Core.List.{[]};
+ghost use Prim.Native.Nat.{_<_, _≤_};
+ghost use lib.Dec.{ltb};
+ghost use lib.ListN.{length};
+ghost use Rattle.laws.specs.Refusals.{typeNotKnown};
+ghost use Rattle.places.specs.Limits.{room};
+ghost use Rattle.places.specs.Layout.{size};
+ghost use Rattle.questions.specs.Question.{type-of, build-year, build-week, cell, led, blind, refusing};
+ghost use Rattle.questions.specs.Replies.{keptAnswer, placeReply, reply};
+
+// The count kept.
+pub fn kept(picture: &[u8]) -> Answer
+    ensures { λ r. ⌜ r ≡ keptAnswer (now (picture .entry)) ⌝ }
+{
+    if picture.len() < SIZE {
+        return Answer::Refused(TOO_SHORT);
+    }
+    Answer::Value(wide16(kept_of(picture)))
+}
+
+pub fn type_of(picture: &[u8], address: u32) -> Answer
+    ensures { λ r. ⌜ r ≡ reply (now (picture .entry)) address type-of [] .answer ⌝ }
+{
+    if picture.len() < SIZE {
+        return Answer::Refused(TOO_SHORT);
+    }
+    let slot = slot_asked(picture, address);
+    if slot < ROOM {
+        Answer::Value(wide16(kind_in(picture, slot)))
+    } else {
+        Answer::Refused(TYPE_NOT_KNOWN)
+    }
+}
+
+// A place of the module in a slot.
+fn place_in(picture: &[u8], slot: u8, place: usize) -> Answer
+    requires { ⌜ (size ≤ length (now picture)) × (slot < room) ⌝ }
+    ensures { λ r. ⌜ r ≡ placeReply (now (picture .entry)) slot place [] .answer ⌝ }
+{
+    if place < PLACES {
+        Answer::Value(number_at(picture, place_at(slot, place as u32)))
+    } else {
+        Answer::Refused(NO_SUCH_PLACE)
+    }
+}
+
+// The same of any slot: 5 for that of no module.
+fn number_in(picture: &[u8], slot: u8, place: usize) -> Answer
+    requires { ⌜ size ≤ length (now picture) ⌝ }
+    ensures { λ r. ⌜ r ≡ cond (ltb slot room) (placeReply (now (picture .entry)) slot place []) (refusing typeNotKnown []) .answer ⌝ }
+{
+    if slot < ROOM {
+        place_in(picture, slot, place)
+    } else {
+        Answer::Refused(TYPE_NOT_KNOWN)
+    }
+}
+
+pub fn build_year(picture: &[u8], address: u32) -> Answer
+    ensures { λ r. ⌜ r ≡ reply (now (picture .entry)) address build-year [] .answer ⌝ }
+{
+    if picture.len() < SIZE {
+        return Answer::Refused(TOO_SHORT);
+    }
+    number_in(picture, slot_asked(picture, address), YEAR as usize)
+}
+
+pub fn build_week(picture: &[u8], address: u32) -> Answer
+    ensures { λ r. ⌜ r ≡ reply (now (picture .entry)) address build-week [] .answer ⌝ }
+{
+    if picture.len() < SIZE {
+        return Answer::Refused(TOO_SHORT);
+    }
+    number_in(picture, slot_asked(picture, address), WEEK as usize)
+}
+
+pub fn cell(picture: &[u8], address: u32, location: u32) -> Answer
+    ensures { λ r. ⌜ r ≡ reply (now (picture .entry)) address (cell location) [] .answer ⌝ }
+{
+    if picture.len() < SIZE {
+        return Answer::Refused(TOO_SHORT);
+    }
+    let slot = slot_asked(picture, address);
+    let place = cell_asked(kind_in(picture, slot), location);
+    number_in(picture, slot, place)
+}
+
+// LEDs count from 1.
+pub fn led(picture: &[u8], address: u32, number: u32) -> Answer
+    ensures { λ r. ⌜ r ≡ reply (now (picture .entry)) address (led number) [] .answer ⌝ }
+{
+    if picture.len() < SIZE {
+        return Answer::Refused(TOO_SHORT);
+    }
+    let slot = slot_asked(picture, address);
+    let place = led_asked(kind_in(picture, slot), number);
+    number_in(picture, slot, place)
+}
+
+// So do blinds.
+pub fn blind(picture: &[u8], address: u32, number: u32) -> Answer
+    ensures { λ r. ⌜ r ≡ reply (now (picture .entry)) address (blind number) [] .answer ⌝ }
+{
+    if picture.len() < SIZE {
+        return Answer::Refused(TOO_SHORT);
+    }
+    let slot = slot_asked(picture, address);
+    let place = blind_asked(kind_in(picture, slot), number);
+    number_in(picture, slot, place)
+}
