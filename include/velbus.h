@@ -113,8 +113,8 @@ uint32_t velbus_read(uint32_t type, uint32_t identifier, uint32_t remote, const 
                      uint8_t *message, size_t message_len);
 
 /* Writes a message as a frame: identifier low, identifier high, remote flag, count, eight data bytes (0 past the count).
- * Value: the bytes written to frame, VELBUS_FRAME_SIZE. Refuses 13 for a message buffer under VELBUS_MESSAGE_SIZE, 6 for bytes
- * that are no message, then 4, 5, 6, 9; last 13, for a frame buffer under VELBUS_FRAME_SIZE. */
+ * Value: the bytes written to frame, VELBUS_FRAME_SIZE. Refuses 13 for a message buffer under VELBUS_MESSAGE_SIZE, 4 for a
+ * bad type handed in, 6 for bytes that are no message, then 4, 5, 6, 9; last 13, for a frame buffer under VELBUS_FRAME_SIZE. */
 uint32_t velbus_write(uint32_t type, const uint8_t *message, size_t message_len, uint8_t *frame, size_t frame_len);
 
 /* ---- the picture: VELBUS_PICTURE_SIZE bytes that the caller lends; fewer are 13, before anything else ---- */

@@ -218,10 +218,10 @@ static int is_message(const uint8_t *m)
 
 unsigned ref_write(uint32_t type, const uint8_t m[20], uint8_t frame[12])
 {
-    if (!is_message(m))
-        return 6;
     if (type != NONE && type != IR && type != BL)
         return 4;
+    if (!is_message(m))
+        return 6;
     uint8_t out[12] = {0};
     unsigned priority = 3;
     if (m[0] == 0) {

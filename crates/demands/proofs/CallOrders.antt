@@ -4,12 +4,14 @@ use native.Mathlib.Omega.{arith}
 use mathlib.Core.Path.{_≡_, refl, ap}
 use mathlib.Core.Logic.{_≢_}
 use mathlib.Core.List.{List, [], _∷_, _++_}
-use mathlib.Core.Bool.{cond}
+use mathlib.Core.Bool.{Bool, true, false, cond}
 use lib.Dec.{ltb, leb}
 use lib.ListN.{length}
 use lib.Seq.{sets}
-use Rattle.laws.specs.Refusals.{tooShort, badNumber}
+use Rattle.laws.specs.Refusals.{badType, notListed, tooShort, badNumber}
+use Rattle.laws.specs.Tests.{among, unless}
 use Rattle.laws.specs.Copies.{copiedIn}
+use Rattle.frame.specs.Types.{handedTypes}
 use Rattle.frame.specs.Reading.{reading}
 use Rattle.frame.specs.Writing.{writing}
 use Rattle.frame.specs.declared.reader.Reading.{Reading}
@@ -32,7 +34,7 @@ use Rattle.velbus.specs.Recordings.{putWord}
 use Rattle.velbus.specs.Parts.{partsOf}
 use Rattle.velbus.specs.Layout.{messageSize, laidBytes, heldIn}
 use Rattle.velbus.specs.Frames.{frameSize, frameBytes, readWord, readInto, writtenWord, writtenInto, heldWord, heldInto, writeWord, writeInto}
-use Rattle.demands.specs.Order.{Test, _or_, Verdict, answers, refuses, verdict, readerOrder, writerOrder, putOrder, heldOrder, writeOrder}
+use Rattle.demands.specs.Order.{Test, _or_, Verdict, answers, refuses, verdict, readerOrder, writerOrder, putOrder, heldTests, writeOrder}
 use Rattle.demands.specs.Demand1.{ofReading, ofWriting, ofOutcome, ofAnswer, valueOf, ofPut, wordOf, Decided, Word, Recordings, Words}
 use Rattle.demands.proofs.Orders.{answers-refuses, by-test, by-fault, answered-then, refused-then}
 use Rattle.demands.proofs.FrameOrders.{reads, writes}
@@ -91,14 +93,19 @@ module _ (ts : List Test) (out : List ℕ) where
   written-then (writer.Refused n) e = refused-then (λ v. wordOf v frameSize) out ts (space frameSize) _ _ n e refl refl
 
 module _ (kind : ℕ) (out : List ℕ) where
-  held-order : (x : Held) → Word frameSize (heldOrder kind x (length out)) out (heldWord kind x (length out)) (heldInto kind x out)
+  nothing-order : (b : Bool) → Word frameSize (b or badType ∷ false or notListed ∷ []) out (refusedWord (unless b badType notListed)) out
+  nothing-order true = record { decides = refl; keeps = λ _ _. refl }
+  nothing-order false = record { decides = refl; keeps = λ _ _. refl }
+
+  held-order :
+      (x : Held) → Word frameSize (among kind handedTypes or badType ∷ heldTests kind x (length out)) out (heldWord kind x (length out)) (heldInto kind x out)
   held-order (Holds a m) = written-then (writerOrder kind m) out (writing kind a m) (writes kind a m)
-  held-order Nothing = record { decides = refl; keeps = λ _ _. refl }
+  held-order Nothing = nothing-order (among kind handedTypes)
 
   write-order : (message : List ℕ) → Word frameSize (writeOrder kind message (length out)) out (writeWord kind message (length out)) (writeInto kind message out)
   unfolding writeWord writeInto
   write-order message =
-      by-fault (λ v. wordOf v frameSize) out tooShort (heldOrder kind (heldIn message) (length out))
+      by-fault (λ v. wordOf v frameSize) out tooShort (among kind handedTypes or badType ∷ heldTests kind (heldIn message) (length out))
       (λ c. cond c (refusedWord tooShort) (heldWord kind (heldIn message) (length out))) (λ c. cond c out (heldInto kind (heldIn message) out))
       (ltb (length message) messageSize) (held-order (heldIn message)) refl refl
 

@@ -11,9 +11,10 @@ use Rattle.frame.proofs.RoundTrip.{read-then-written, written-then-read}
 use Rattle.places.specs.Limits.{addresses}
 use Rattle.history.proofs.Speaks.{speaks-of}
 use Rattle.places.proofs.Fitting.{runs-lie, runs-fit}
+use Rattle.places.proofs.Apart.{apart, inside}
 use Rattle.history.proofs.Effects.{effects, hears-command, hears-entry, hears-exchange}
 use Rattle.velbus.proofs.Held.{laid-is-held}
-use Rattle.velbus.proofs.Again.{read-then-written-again}
+use Rattle.velbus.proofs.Again.{read-then-written-again, laid-is-read-back}
 use Rattle.demands.specs.Order.{answers}
 use Rattle.demands.specs.Demand1.{ofWriting}
 use Rattle.demands.specs.Demand2.{ReadsBack, LegalIsWritten, Demand2}
@@ -37,9 +38,12 @@ demand-2 =
       legal-is-written = legal-is-written;
       written-then-read = written-then-read;
       laid-is-held = laid-is-held;
+      laid-is-read-back = laid-is-read-back;
       speaks-of = speaks-of;
       runs-lie = runs-lie;
       runs-fit = runs-fit;
+      apart = apart;
+      inside = inside;
       effects = effects;
       hears-command = hears-command;
       hears-entry = hears-entry;

@@ -13,9 +13,10 @@ use Rattle.frame.specs.declared.writer.Frame.{Frame}
 use Rattle.frame.specs.declared.writer.Writing.the-variants.{Written}
 use Rattle.places.specs.Limits.{addresses}
 use Rattle.places.specs.Fitting.{RunsLie, RunsFit}
+use Rattle.places.specs.Apart.{Apart, Inside}
 use Rattle.history.specs.Speaks.{SpeaksOf}
 use Rattle.history.specs.Effects.{Effects, HearsCommand, HearsEntry, HearsExchange}
-use Rattle.velbus.specs.Statements.{LaidIsHeld, ReadThenWrittenAgain}
+use Rattle.velbus.specs.Statements.{LaidIsHeld, ReadThenWrittenAgain, LaidIsReadBack}
 use Rattle.demands.specs.Order.{answers, verdict, writerOrder}
 
 -- the message is written as a frame, and that reads back as the message
@@ -39,10 +40,14 @@ pub record Demand2 : Type 0 where
   pub legal-is-written : LegalIsWritten
   pub written-then-read : WrittenThenRead
   pub laid-is-held : LaidIsHeld
+  pub laid-is-read-back : LaidIsReadBack
   -- what each message says of each place, all of them places that its type has
   pub speaks-of : SpeaksOf
   pub runs-lie : RunsLie
   pub runs-fit : RunsFit
+  -- different things have different places, each in the record
+  pub apart : Apart
+  pub inside : Inside
   -- an accepted frame changes the addressed module so, and no other
   pub effects : Effects
   pub hears-command : HearsCommand

@@ -178,10 +178,11 @@ putOrder b at gap identifier remote ds =
 abbrev pub readOrder : ℕ → ℕ → ℕ → List ℕ → ℕ → List Test
 readOrder kind identifier remote s space = readerOrder kind identifier remote s ++ (leb messageSize space or tooShort ∷ [])
 
--- velbus_write: 13 for the message; 6 for bytes that are none; the writer's own; 13 for the frame
-abbrev pub heldOrder : ℕ → Held → ℕ → List Test
-heldOrder kind (Holds a m) space = writerOrder kind m ++ (leb frameSize space or tooShort ∷ [])
-heldOrder kind Nothing space = false or notListed ∷ []
+-- velbus_write: 13 for the message; a bad handed-in type; 6 for bytes that are no message; the writer's others; 13 for the frame
+abbrev pub heldTests : ℕ → Held → ℕ → List Test
+heldTests kind (Holds a m) space = messageTests kind m ++ (leb frameSize space or tooShort ∷ [])
+heldTests kind Nothing space = false or notListed ∷ []
 
 abbrev pub writeOrder : ℕ → List ℕ → ℕ → List Test
-writeOrder kind message space = not (ltb (length message) messageSize) or tooShort ∷ heldOrder kind (heldIn message) space
+writeOrder kind message space =
+    not (ltb (length message) messageSize) or tooShort ∷ among kind handedTypes or badType ∷ heldTests kind (heldIn message) space

@@ -1,3 +1,4 @@
 pub mod CodePlaces
 pub mod Readers
 pub mod Fitting
+pub mod Apart

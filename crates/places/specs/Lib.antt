@@ -3,6 +3,7 @@ pub mod Limits
 pub mod Places
 pub mod Runs
 pub mod Fitting
+pub mod Apart
 pub mod Result
 pub mod Layout
 pub mod Head

@@ -7,6 +7,7 @@ use laws::TOO_SHORT;
 use laws::TYPE_NOT_KNOWN;
 use places::Answer;
 use places::NAME_LENGTH;
+use places::NOT_HEARD;
 use places::ROOM;
 use places::SIZE;
 use places::character_place;
@@ -23,9 +24,6 @@ ghost use Rattle.places.specs.Places.{nameLength};
 ghost use Rattle.questions.specs.Question.{name-heard, whole-name};
 ghost use Rattle.questions.specs.Fills.{filledTo};
 ghost use Rattle.questions.specs.Replies.{sumTo, nameNumbers, reply};
-
-// Above every character's number.
-const NOT_HEARD: u16 = 256;
 
 // The numbers of a name's characters, with the refusals that both questions have before their own.
 fn name_numbers(picture: &[u8], address: u32, name: u32, row: &mut [u16; 16]) -> Answer

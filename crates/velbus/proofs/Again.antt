@@ -1,4 +1,5 @@
--- A C caller that reads a frame into a message and writes the message gets the same frame.
+-- A C caller that reads a frame into a message and writes the message gets the same frame, and one that lays out a message, writes it and reads
+-- the frame gets the same bytes.
 -- Assumes nothing.
 use Prim.Native.Nat.{ℕ, _+_, _≤_, _<_}
 use native.Mathlib.Omega.{arith}
@@ -30,11 +31,12 @@ use Rattle.frame.specs.declared.writer.Frame.{Frame}
 use Rattle.frame.specs.declared.writer.Writing.the-variants.{Written}
 use Rattle.frame.proofs.Listed.{everywhere, of-any}
 use Rattle.frame.proofs.Shapes.{cell-near, block-near}
-use Rattle.frame.proofs.RoundTrip.{read-then-written, written-lawful}
+use Rattle.frame.proofs.RoundTrip.{read-then-written, written-then-read, written-lawful}
 use Rattle.velbus.specs.Parts.{timeSeconds, Numbered, longTypes, shortTypes, noMessage, numberIn, commandParts, partsOf}
+use Rattle.velbus.specs.Words.{roomWord}
 use Rattle.velbus.specs.Layout.{messageSize, laidBytes, heldIn}
-use Rattle.velbus.specs.Frames.{heldWord, heldInto, readInto, writeWord, writeInto}
-use Rattle.velbus.specs.Statements.{Fitting, ReadThenWrittenAgain}
+use Rattle.velbus.specs.Frames.{frameSize, frameBytes, heldWord, heldInto, readInto, writeWord, writeInto}
+use Rattle.velbus.specs.Statements.{Fitting, ReadThenWrittenAgain, LaidIsReadBack}
 use Rattle.velbus.specs.declared.parts.Held.the-variants.{Holds}
 use Rattle.velbus.proofs.Held.{laid-is-held}
 
@@ -161,19 +163,43 @@ into-by : (kind : ℕ) (message out : List ℕ) → messageSize ≤ length messa
 unfolding writeInto
 into-by kind message out h = rw (le-ltb (length message) messageSize h)
 
+-- a laid-out message that is written, whatever stands after it
+module _ (kind : ℕ) (a : Address) (m : Message) (f : Frame) (after out : List ℕ) (h : writing kind a m ≡ Written f) where
+  abbrev buffer : List ℕ
+  buffer = laidBytes (partsOf a m) ++ after
+
+  holds : heldIn buffer ≡ Holds a m
+  holds = laid-is-held a m after (written-fits kind a m f h)
+
+  enough : messageSize ≤ length buffer
+  enough = omega (arith, length-append (laidBytes (partsOf a m)) after, laid-size a m)
+
+  written-word : writeWord kind buffer (length out) ≡ roomWord (length out) frameSize
+  written-word = word-by kind buffer (length out) enough ∙ rw (holds, h)
+
+  written-into : writeInto kind buffer out ≡ copiedIn out 0 (frameBytes f)
+  written-into = into-by kind buffer out enough ∙ rw (holds, h)
+
 pub read-then-written-again : ReadThenWrittenAgain
 read-then-written-again kind i remote s message out a m small room h =
     let g = read-then-written kind i remote s a m small h in
-    let b : List ℕ = laidBytes (partsOf a m) ++ drop messageSize message in
-    let e : readInto (reading kind i remote s) message ≡ b = rw h (laid-front a m message room) in
-    let l : heldIn b ≡ Holds a m = laid-is-held a m (drop messageSize message) (written-fits kind a m (g .frame) (g .given)) in
-    let n : messageSize ≤ length b = omega (arith, length-append (laidBytes (partsOf a m)) (drop messageSize message), laid-size a m) in
+    let e : readInto (reading kind i remote s) message ≡ laidBytes (partsOf a m) ++ drop messageSize message = rw h (laid-front a m message room) in
     rw e
     (record {
       frame = g .frame;
-      word = word-by kind b (length out) n ∙ rw (l, g .given);
-      buffer = into-by kind b out n ∙ rw (l, g .given);
+      word = written-word kind a m (g .frame) (drop messageSize message) out (g .given);
+      buffer = written-into kind a m (g .frame) (drop messageSize message) out (g .given);
       same-identifier = g .same-identifier;
       same-remote = g .same-remote;
       same-data = g .same-data;
     })
+
+pub laid-is-read-back : LaidIsReadBack
+laid-is-read-back kind a m f after out back small h =
+    let r = written-then-read kind a m f small h in
+    record {
+      word = written-word kind a m f after out h;
+      buffer = written-into kind a m f after out h;
+      read = rw r;
+      same = rw r;
+    }

@@ -4,8 +4,10 @@ use mathlib.Core.List.{List, _∷_}
 use mathlib.Core.Bool.{cond}
 use lib.Dec.{ltb}
 use lib.ListN.{length}
-use Rattle.laws.specs.Refusals.{notListed, tooShort}
+use Rattle.laws.specs.Refusals.{badType, notListed, tooShort}
+use Rattle.laws.specs.Tests.{among, unless}
 use Rattle.laws.specs.Copies.{copiedIn}
+use Rattle.frame.specs.Types.{handedTypes}
 use Rattle.frame.specs.Bytes.{bytesOf}
 use Rattle.frame.specs.Writing.{writing}
 use Rattle.frame.specs.declared.reader.Reading.{Reading}
@@ -44,10 +46,10 @@ abbrev pub writtenInto : Writing → List ℕ → List ℕ
 writtenInto (w.Written f) out = copiedIn out 0 (frameBytes f)
 writtenInto (w.Refused number) out = out
 
--- bytes that are no message are 6
+-- bytes that are no message are 6, after a bad handed-in type
 abbrev pub heldWord : ℕ → Held → ℕ → ℕ
 heldWord kind (Holds a m) room = writtenWord (writing kind a m) room
-heldWord kind Nothing room = refusedWord notListed
+heldWord kind Nothing room = refusedWord (unless (among kind handedTypes) badType notListed)
 
 abbrev pub heldInto : ℕ → Held → List ℕ → List ℕ
 heldInto kind (Holds a m) out = writtenInto (writing kind a m) out

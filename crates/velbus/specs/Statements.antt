@@ -7,14 +7,16 @@ use Rattle.laws.specs.Limits.{AllBytes}
 use Rattle.laws.specs.Copies.{copiedIn}
 use Rattle.frame.specs.Bytes.{dataBytes}
 use Rattle.frame.specs.Reading.{reading}
+use Rattle.frame.specs.Writing.{writing}
 use Rattle.frame.specs.declared.reader.Reading.the-variants.{Read}
 use Rattle.frame.specs.declared.writer.Frame.{Frame}
+use Rattle.frame.specs.declared.writer.Writing.the-variants.{Written}
 use Rattle.frame.specs.declared.identifiers.Address.{Address}
 use Rattle.frame.specs.declared.messages.Message.{Message}
 use Rattle.velbus.specs.declared.parts.Held.the-variants.{Holds}
 use Rattle.velbus.specs.Parts.{noMessage, partsOf}
 use Rattle.velbus.specs.Layout.{messageSize, laidBytes, heldIn}
-use Rattle.velbus.specs.Frames.{frameBytes, frameSize, readInto, writeWord, writeInto}
+use Rattle.velbus.specs.Frames.{frameBytes, frameSize, readWord, readInto, writeWord, writeInto}
 use Rattle.velbus.specs.Words.{roomWord}
 
 -- the message has a number: the type inside FF is one that the table has for its shape; and its location and seconds fit their fields, as
@@ -45,3 +47,18 @@ ReadThenWrittenAgain =
     messageSize ≤ length message →
     reading kind identifier remote s ≡ Read a m →
     WritesAgain kind (readInto (reading kind identifier remote s) message) out identifier remote s
+
+-- velbus_write makes a frame of the laid-out message, whatever stands after it, and velbus_read makes the same bytes of that frame again, in any buffer
+pub record ReadsBackAs (kind : ℕ) (laid after out back : List ℕ) (f : Frame) : Type 0 where
+  pub word : writeWord kind (laid ++ after) (length out) ≡ roomWord (length out) frameSize
+  pub buffer : writeInto kind (laid ++ after) out ≡ copiedIn out 0 (frameBytes f)
+  pub read : readWord (reading kind (f .identifier) (f .remote) (dataBytes (f .bytes))) (length back) ≡ roomWord (length back) messageSize
+  pub same : readInto (reading kind (f .identifier) (f .remote) (dataBytes (f .bytes))) back ≡ copiedIn back 0 laid
+
+-- a legal message that a C caller lays out is written, and reads back as the same bytes
+abbrev pub LaidIsReadBack : Type 0
+LaidIsReadBack =
+    (kind : ℕ) (a : Address) (m : Message) (f : Frame) (after out back : List ℕ) →
+    a .0 < 256 →
+    writing kind a m ≡ Written f →
+    ReadsBackAs kind (laidBytes (partsOf a m)) after out back f

@@ -11,9 +11,12 @@ use frame::Frame;
 use frame::Message;
 use frame::Reading;
 use frame::Writing;
+use frame::handed_type;
+use laws::BAD_TYPE;
 use laws::NOT_LISTED;
 use laws::TOO_SHORT;
 use laws::copy_in;
+use laws::unless;
 ghost use mathlib.Core.Path.{_≡_};
 ghost use lib.ListN.{length};
 ghost use Rattle.frame.specs.Reading.{reading};
@@ -100,7 +103,7 @@ fn write_held(kind: u32, held: Held, out: &mut [u8]) -> u32
 {
     match held {
         Held::Holds(a, m) => write_message(kind, a, m, out),
-        Held::Nothing => refused(NOT_LISTED),
+        Held::Nothing => refused(unless(handed_type(kind), BAD_TYPE, NOT_LISTED)),
     }
 }
 
