@@ -10,14 +10,15 @@ use lib.ListN.{length}
 use lib.Seq.{sets}
 use Rattle.laws.specs.Refusals.{badType, notListed, tooShort, badNumber}
 use Rattle.laws.specs.Tests.{among, unless}
+use Rattle.laws.specs.Answers as numbers
 use Rattle.laws.specs.Copies.{copiedIn}
 use Rattle.frame.specs.Types.{handedTypes}
 use Rattle.frame.specs.Reading.{reading}
-use Rattle.frame.specs.Writing.{writing}
-use Rattle.frame.specs.declared.reader.Reading.{Reading}
-use Rattle.frame.specs.declared.reader.Reading.the-variants as reader
-use Rattle.frame.specs.declared.writer.Writing.{Writing}
-use Rattle.frame.specs.declared.writer.Writing.the-variants as writer
+use Rattle.codec.specs.Writing.{writing}
+use Rattle.frame.specs.declared.messages.Reading.{Reading}
+use Rattle.frame.specs.declared.messages.Reading.the-variants as reader
+use Rattle.codec.specs.declared.writer.Writing.{Writing}
+use Rattle.codec.specs.declared.writer.Writing.the-variants as writer
 use Rattle.places.specs.declared.answers.Outcome.{Outcome}
 use Rattle.places.specs.declared.answers.Outcome.the-variants as outcome
 use Rattle.places.specs.declared.answers.Answer.{Answer}
@@ -26,10 +27,12 @@ use Rattle.recording.specs.declared.writes.Put.{Put}
 use Rattle.recording.specs.declared.writes.Put.the-variants as put
 use Rattle.recording.specs.Write.{inRange, recordBytes, putCase, placed, putAnswer, putBytes}
 use Rattle.recording.proofs.Entries.{records-are-whole, faults-are-placed}
+use Rattle.recording.proofs.Faults.{fault-is-certain, mendable-is-cut}
+use Rattle.recording.proofs.Mending.{cut-can-be-mended}
 use Rattle.recording.proofs.Windows.{window-settles}
 use Rattle.velbus.specs.declared.parts.Held.{Held}
 use Rattle.velbus.specs.declared.parts.Held.the-variants.{Holds, Nothing}
-use Rattle.velbus.specs.Words.{values, refusedWord, roomWord, outcomeWord, answerWord}
+use Rattle.velbus.specs.Words.{values, refusedWord, word, roomWord, outcomeWord, answerWord}
 use Rattle.velbus.specs.Recordings.{putWord}
 use Rattle.velbus.specs.Parts.{partsOf}
 use Rattle.velbus.specs.Layout.{messageSize, laidBytes, heldIn}
@@ -63,6 +66,9 @@ recordings =
       put-record = λ b at gap identifier remote ds. puts b at gap identifier remote ds (λ v. v) ofPut (λ n. refl) refl;
       whole = records-are-whole;
       placed = faults-are-placed;
+      certain = fault-is-certain;
+      mended = cut-can-be-mended;
+      mendable = mendable-is-cut;
       settles = window-settles;
     }
 
@@ -73,10 +79,10 @@ module _ (out laid : List ℕ) where
   laid-is = ap (λ (n : ℕ). cond (leb n (length out)) (sets out 0 laid) out) (omega arith)
 
   -- bytes laid into a buffer: 13 where they have no room
-  lays : Word (length laid) (leb (length laid) (length out) or tooShort ∷ []) out (roomWord (length out) (length laid)) (copiedIn out 0 laid)
+  lays : Word (length laid % values) (leb (length laid) (length out) or tooShort ∷ []) out (roomWord (length out) (length laid)) (copiedIn out 0 laid)
   lays =
       rw laid-is
-      (by-test (λ v. wordOf v (length laid)) out tooShort [] (λ c. cond c (length laid) (refusedWord tooShort)) (λ c. cond c (sets out 0 laid) out)
+      (by-test (λ v. wordOf v (length laid % values)) out tooShort [] (λ c. word (cond c (numbers.value (length laid)) (numbers.refusal tooShort))) (λ c. cond c (sets out 0 laid) out)
       (leb (length laid) (length out)) (record { decides = refl; keeps = λ n e. answers-refuses e }) refl refl)
 
 module _ (ts : List Test) (out : List ℕ) where
@@ -116,8 +122,9 @@ outcome-word : (o : Outcome) → outcomeWord o ≡ wordOf (ofOutcome o) 0
 outcome-word outcome.Done = refl
 outcome-word (outcome.Refused n) = refl
 
-answer-word : (x : Answer) → answerWord x ≡ wordOf (ofAnswer x) (valueOf x)
+answer-word : (x : Answer) → answerWord x ≡ wordOf (ofAnswer x) (valueOf x % values)
 answer-word (answer.Value v) = refl
+answer-word answer.NotHeard = refl
 answer-word (answer.Refused n) = refl
 
 pub words : Words

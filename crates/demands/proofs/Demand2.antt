@@ -1,15 +1,16 @@
 -- Demand 2, as specs/Demand2.antt states it. Assumes nothing.
 use Prim.Native.Nat.{ℕ, _<_}
 use mathlib.Core.Path.{_≡_, refl, sym, _∙_}
-use Rattle.frame.specs.Writing.{writing}
+use Rattle.codec.specs.Writing.{writing}
 use Rattle.frame.specs.declared.identifiers.Address.{Address}
 use Rattle.frame.specs.declared.messages.Message.{Message}
-use Rattle.frame.specs.declared.writer.Writing.{Writing}
-use Rattle.frame.specs.declared.writer.Writing.the-variants.{Written, Refused}
-use Rattle.frame.proofs.Accepted.{every-frame, every-request}
-use Rattle.frame.proofs.RoundTrip.{read-then-written, written-then-read}
+use Rattle.codec.specs.declared.writer.Writing.{Writing}
+use Rattle.codec.specs.declared.writer.Writing.the-variants.{Written, Refused}
+use Rattle.codec.proofs.Accepted.{every-row, every-request}
+use Rattle.codec.proofs.Everything.{every-frame}
+use Rattle.codec.proofs.RoundTrip.{read-then-written, written-then-read, one-frame}
 use Rattle.places.specs.Limits.{addresses}
-use Rattle.history.proofs.Speaks.{speaks-of}
+use Rattle.history.proofs.Speaks.{names-numbered, speaks-of}
 use Rattle.places.proofs.Fitting.{runs-lie, runs-fit}
 use Rattle.places.proofs.Apart.{apart, inside}
 use Rattle.history.proofs.Effects.{effects, hears-command, hears-entry, hears-exchange}
@@ -32,7 +33,9 @@ pub demand-2 : Demand2
 demand-2 =
     record {
       every-frame = every-frame;
+      every-row = every-row;
       every-request = every-request;
+      one-frame = one-frame;
       read-then-written = read-then-written;
       read-then-written-again = read-then-written-again;
       legal-is-written = legal-is-written;
@@ -40,6 +43,7 @@ demand-2 =
       laid-is-held = laid-is-held;
       laid-is-read-back = laid-is-read-back;
       speaks-of = speaks-of;
+      names-numbered = names-numbered;
       runs-lie = runs-lie;
       runs-fit = runs-fit;
       apart = apart;

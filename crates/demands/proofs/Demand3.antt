@@ -11,14 +11,18 @@ use Rattle.picture.specs.Hearing.{hearing}
 use Rattle.history.specs.Standing.{Frame, Event, hear, back, kept, outcomeOf, granted, answered}
 use Rattle.history.specs.Demand3.{doing, runsBytes}
 use Rattle.history.proofs.Demand3.{demand-3 as shows-standing}
+use Rattle.history.proofs.Sentence.{sentence, sentence-decides}
 use Rattle.history.proofs.ModulesListed.{in-order, listed-is}
 use Rattle.history.proofs.Effects.{back-over, room-used-again}
+use Rattle.questions.proofs.RowBytes.{row-is-bytes}
 use Rattle.recording.specs.declared.records.Entry.{Entry}
 use Rattle.recording.specs.declared.records.Entry.the-variants.{Record, End, Broken}
 use Rattle.recording.specs.Record.{readRecord}
+use Rattle.recording.proofs.Entries.{records-are-whole, only-past-end}
 use Rattle.replay.specs.Replay.{Run, isDone, one, heardBy, runStep, runFrom}
 use Rattle.replay.proofs.AllTurns.{turns-are-replay}
-use Rattle.demands.specs.Demand3.{backAfter, Granted, NotGranted, framesBy, framesFrom, accepting, refusing, counting, RecordingsHeard, Demand3}
+use Rattle.replay.proofs.Rooms.{all-is-replay, call-is-turn}
+use Rattle.demands.specs.Demand3.{backAfter, Granted, NotGranted, framesBy, framesFrom, stopBy, stopFrom, faultOf, offsetOf, accepting, refusing, counting, RecordingsHeard, Demand3}
 
 -- ---- a step back
 back-answer : (b : List ℕ) → size ≤ length b → (h : List Event) → backAfter b h ≡ outcomeOf (granted (kept h))
@@ -72,15 +76,39 @@ module _ (s : List ℕ) where
       by-entry rest frames f b heard refused at End = record { picture = refl; heard-is = omega arith; refused-is = omega arith }
       by-entry rest frames f b heard refused at (Broken refusal offset) = record { picture = refl; heard-is = omega arith; refused-is = omega arith }
 
+  -- a run that reaches the end of the records has the number and the offset of what stands there
+  record Stopped (r : Run) (e : Entry) : Type 0 where
+    fault-is : r .replay .refusal ≡ faultOf e
+    offset-is : r .replay .offset ≡ offsetOf s e
+
+  stopped-from : (steps : ℕ) (b : List ℕ) (heard refused at : ℕ) → at ≤ length s → length s < steps + at → Stopped (runFrom heardBy steps s b heard refused at) (stopFrom steps s at)
+  unfolding runFrom stopFrom
+  stopped-from zero b heard refused at inside enough = absurd (omega arith)
+  stopped-from (suc steps) b heard refused at inside enough =
+      by-entry (readRecord s at) refl (λ b heard refused next l m. stopped-from steps b heard refused next l (omega arith))
+    where
+      by-entry : (e : Entry) → readRecord s at ≡ e
+          → ((b : List ℕ) (heard refused next : ℕ) → next ≤ length s → at < next → Stopped (runFrom heardBy steps s b heard refused next) (stopFrom steps s next))
+          → Stopped (runStep heardBy (runFrom heardBy steps s) s b heard refused at e) (stopBy (stopFrom steps s) e)
+      by-entry (Record gap identifier remote start len next) e again =
+          let w = records-are-whole s at gap identifier remote start len next e in
+          again _ _ _ next (w .inside) (omega (arith, w .starts, w .ends))
+      by-entry End e again = record { fault-is = refl; offset-is = omega (arith, only-past-end s at e) }
+      by-entry (Broken refusal offset) e again = record { fault-is = refl; offset-is = refl }
+
 recordings-heard : RecordingsHeard
 recordings-heard b s =
     let h = heard-from s (suc (length s)) b 0 0 0 in
-    record { picture = h .picture; heard = omega (arith, h .heard-is); refused = omega (arith, h .refused-is) }
+    let f = stopped-from s (suc (length s)) b 0 0 0 (omega arith) (omega arith) in
+    record { picture = h .picture; heard = omega (arith, h .heard-is); refused = omega (arith, h .refused-is); fault = f .fault-is; offset = f .offset-is }
 
 pub demand-3 : Demand3
 demand-3 =
     record {
       shows-standing = shows-standing;
+      row-is-bytes = row-is-bytes;
+      sentence = sentence;
+      sentence-decides = sentence-decides;
       in-order = in-order;
       granted = is-granted;
       not-granted = is-not-granted;
@@ -89,4 +117,6 @@ demand-3 =
       listed-is = listed-is;
       recordings-heard = recordings-heard;
       turns-are-replay = turns-are-replay;
+      all-is-replay = all-is-replay;
+      call-is-turn = call-is-turn;
     }

@@ -16,18 +16,19 @@ use Rattle.laws.proofs.Keys.{for-each}
 use Rattle.frame.specs.Identifiers.{priorityOf, addressOf}
 use Rattle.frame.specs.Types.{noType, moduleTypes, handedTypes, rowsOf, rowFor, isListed}
 use Rattle.frame.specs.Bytes.{byte, dataOf}
-use Rattle.frame.specs.Messages.{typeCommand, encode}
+use Rattle.frame.specs.Messages.{typeCommand}
+use Rattle.codec.specs.Encoding.{encode}
 use Rattle.frame.specs.Fields.{fault}
 use Rattle.frame.specs.Reading.{rowRefusal, reading, requestRead, commandRead}
-use Rattle.frame.specs.Writing.{handedRefusal, writeRefusal, commandFrame, writing, commandWritten, writtenAs}
+use Rattle.codec.specs.Writing.{handedRefusal, writeRefusal, commandFrame, writing, commandWritten, writtenAs}
 use Rattle.frame.specs.declared.identifiers.Address.{Address}
 use Rattle.frame.specs.declared.messages.Command.{Command}
 use Rattle.frame.specs.declared.messages.Message.{Message}
 use Rattle.frame.specs.declared.messages.Message.the-variants.{TypeRequest, Tells}
-use Rattle.frame.specs.declared.reader.Reading.{Reading}
-use Rattle.frame.specs.declared.reader.Reading.the-variants as reader
-use Rattle.frame.specs.declared.writer.Writing.{Writing}
-use Rattle.frame.specs.declared.writer.Writing.the-variants as writer
+use Rattle.frame.specs.declared.messages.Reading.{Reading}
+use Rattle.frame.specs.declared.messages.Reading.the-variants as reader
+use Rattle.codec.specs.declared.writer.Writing.{Writing}
+use Rattle.codec.specs.declared.writer.Writing.the-variants as writer
 use Rattle.frame.proofs.Listed.{listed-module, module-some}
 use Rattle.places.specs.Runs.{commandOf}
 use Rattle.demands.specs.Order.{Test, _or_, Verdict, answers, refuses, verdict, formTests, requestTests, rowTests, typeTests, otherTests, dataTests, frameOrder, readerOrder, typeWritten, otherWritten, writerOrder}

@@ -4,7 +4,9 @@ pub mod FrameOrders
 pub mod PictureOrders
 pub mod QuestionOrders
 pub mod CallOrders
+pub mod ReplayOrders
 pub mod Demand1
+pub mod Determined
 pub mod Demand2
 pub mod Demand3
 pub mod Edges

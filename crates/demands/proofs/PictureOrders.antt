@@ -6,12 +6,12 @@ use mathlib.Core.Bool.{Bool, true, false, _||_, cond}
 use lib.Dec.{eqb, ltb}
 use borrow.Author.Tests.{eqb-true, eqb-false}
 use Rattle.laws.specs.Refusals.{noRoom, nothingKept, tooShort}
-use Rattle.frame.specs.Types.{rowFor}
+use Rattle.frame.specs.Types.{longType, rowFor}
 use Rattle.frame.specs.Bytes.{byte}
-use Rattle.frame.specs.Messages.{typeCommand, longType}
+use Rattle.frame.specs.Messages.{typeCommand}
 use Rattle.frame.specs.Reading.{reading}
 use Rattle.frame.specs.declared.messages.Command.the-variants.{TypeLong, TypeShort}
-use Rattle.frame.specs.declared.reader.Reading.{Reading}
+use Rattle.frame.specs.declared.messages.Reading.{Reading}
 use Rattle.places.specs.declared.answers.Outcome.{Outcome}
 use Rattle.places.specs.declared.answers.Outcome.the-variants as outcome
 use Rattle.places.specs.Limits.{room, busAddress}

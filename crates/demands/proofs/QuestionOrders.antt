@@ -1,22 +1,23 @@
 -- The orders of the questions on a picture. Assumes nothing.
-use Prim.Native.Nat.{ℕ, _*_}
+use Prim.Native.Nat.{ℕ, _+_, _*_}
 use mathlib.Core.Path.{_≡_, refl}
+use mathlib.Core.Bool.{Bool, true, false, _&&_, cond}
 use mathlib.Core.List.{List, [], _∷_}
 use lib.Dec.{eqb, ltb, leb}
-use lib.ListN.{length}
+use lib.ListN.{length, getD}
 use Rattle.laws.specs.Refusals.{typeNotKnown, noSuchPlace, tooShort, notWhole}
 use Rattle.frame.specs.Types.{extentOf}
-use Rattle.places.specs.declared.answers.Answer.the-variants.{Refused}
+use Rattle.places.specs.declared.answers.Answer.the-variants.{Value, NotHeard, Refused}
 use Rattle.places.specs.Limits.{room, addresses}
 use Rattle.places.specs.Places.{places, nameLength, yearPlace, weekPlace, cellAsked, ledAsked, blindAsked, hasName, nameRow, cellRow}
 use Rattle.places.specs.Layout.{placeAt}
 use Rattle.places.specs.Head.{short, kindIn}
-use Rattle.questions.specs.Question.{Question, type-of, build-year, build-week, cell, led, blind, name-heard, whole-name, memory-row, memory-bytes}
+use Rattle.questions.specs.Question.{Question, type-of, build-year, build-week, cell, led, blind, name-heard, whole-name, memory-row, memory-bytes, answering}
 use Rattle.questions.specs.Fills.{filledTo, filling, valueAt, rowNumber, lowFirst, numbersFill, bytesFill}
-use Rattle.questions.specs.Replies.{slotAsked, placeReply, characterHeard, sumTo, heardReply, nameReply, replyAs, replyIn, reply, keptAnswer, listedIf, listing}
-use Rattle.demands.specs.Order.{verdict, pictureTest, rowTest, listedOrder, placeTest, questionTests, questionOrder}
+use Rattle.questions.specs.Replies.{slotAsked, answerAt, placeReply, characterHeard, sumTo, heardReply, nameReply, replyAs, replyIn, reply, keptAnswer, listedIf, listing}
+use Rattle.demands.specs.Order.{answers, verdict, pictureTest, rowTest, listedOrder, placeTest, questionTests, questionOrder}
 use Rattle.demands.specs.Demand1.{ofAnswer, Replied, Questions}
-use Rattle.demands.proofs.Orders.{reply-test, reply-fault, reply-done, answer-fault}
+use Rattle.demands.proofs.Orders.{answers-refuses, reply-test, reply-fault, reply-done, answer-fault}
 
 -- a row of n numbers
 fills : (f : ℕ → ℕ) (n : ℕ) (out : List ℕ) → Replied (rowTest n out ∷ []) out (filling f n out)
@@ -33,9 +34,17 @@ listed-order b out = reply-fault out tooShort _ _ (short b) (fills (listedIf b) 
 
 -- a question on the module in slot s, whose type is kind
 module _ (b : List ℕ) (s kind : ℕ) (out : List ℕ) where
+  -- what a place holds is answered, heard or not
+  place-answered : (o : ℕ) → Replied [] out (answering (answerAt b o) out)
+  place-answered o = record { decides = go (eqb (getD b o 0) 0 && eqb (getD b (o + 1) 0) 1); keeps = λ n e. answers-refuses e }
+    where
+      go : (t : Bool) → ofAnswer (cond t NotHeard (Value (valueAt b o))) ≡ answers
+      go true = refl
+      go false = refl
+
   places-order : (p : ℕ) → Replied (placeTest p ∷ []) out (placeReply b s p out)
   unfolding placeReply
-  places-order p = reply-test out noSuchPlace [] _ (ltb p places) (reply-done out (valueAt b (placeAt s p)) out)
+  places-order p = reply-test out noSuchPlace [] _ (ltb p places) (place-answered (placeAt s p))
 
   asked-order : (q : Question) → Replied (questionTests b s kind q out) out (replyAs b s kind q out)
   unfolding replyAs heardReply nameReply numbersFill bytesFill

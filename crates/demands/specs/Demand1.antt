@@ -1,23 +1,22 @@
 -- Demand 1: any identifier, remote flag, data, recording or question is given an answer or the one refusal number that the rules give; a refused
--- call alters nothing that was handed over. The proofs are proofs/FrameOrders.antt, PictureOrders.antt, QuestionOrders.antt, CallOrders.antt and, of the
--- whole, Demand1.antt.
+-- call alters nothing that was handed over. The proofs are proofs/FrameOrders.antt, PictureOrders.antt, QuestionOrders.antt, CallOrders.antt,
+-- ReplayOrders.antt and, of the whole, Demand1.antt.
 use Prim.Native.Nat.{ℕ, _%_, _<_}
 use mathlib.Core.Path.{_≡_}
 use mathlib.Core.Logic.{_≢_}
 use mathlib.Core.List.{List, [], _∷_}
 use lib.ListN.{length}
-use Rattle.frame.specs.Reading.{reading}
-use Rattle.frame.specs.Writing.{writing}
+use Rattle.laws.specs.Answers as numbers
+use Rattle.frame.specs.Reading.{reading, readingNumbers}
+use Rattle.codec.specs.Writing.{writing, writingNumbers}
 use Rattle.frame.specs.declared.identifiers.Address.{Address}
 use Rattle.frame.specs.declared.messages.Message.{Message}
-use Rattle.frame.specs.declared.reader.Reading.{Reading}
-use Rattle.frame.specs.declared.reader.Reading.the-variants as reader
-use Rattle.frame.specs.declared.writer.Writing.{Writing}
-use Rattle.frame.specs.declared.writer.Writing.the-variants as writer
+use Rattle.frame.specs.declared.messages.Reading.{Reading}
+use Rattle.codec.specs.declared.writer.Writing.{Writing}
 use Rattle.places.specs.declared.answers.Outcome.{Outcome}
-use Rattle.places.specs.declared.answers.Outcome.the-variants as outcome
 use Rattle.places.specs.declared.answers.Answer.{Answer}
 use Rattle.places.specs.declared.answers.Answer.the-variants as answer
+use Rattle.places.specs.Answers.{outcomeNumbers, answerNumbers}
 use Rattle.places.specs.Result.{Result}
 use Rattle.picture.specs.Hearing.{hearing}
 use Rattle.picture.specs.Stepping.{steppingBack}
@@ -25,35 +24,45 @@ use Rattle.picture.specs.Fresh.{freshening}
 use Rattle.questions.specs.Question.{Question, Reply}
 use Rattle.questions.specs.Replies.{keptAnswer, listing, reply}
 use Rattle.recording.specs.declared.writes.Put.{Put}
-use Rattle.recording.specs.declared.writes.Put.the-variants as put
-use Rattle.recording.specs.Write.{recordBytes, putAnswer, putBytes}
-use Rattle.recording.specs.Statements.{RecordsAreWhole, FaultsArePlaced, WindowSettles}
+use Rattle.recording.specs.Write.{recordBytes, putNumbers, putAnswer, putBytes}
+use Rattle.recording.specs.Statements.{RecordsAreWhole, FaultsArePlaced, FaultIsCertain, CutCanBeMended, MendableIsCut, WindowSettles}
+use Rattle.replay.specs.declared.records.Replayed.{Replayed}
+use Rattle.replay.specs.declared.window.Part.{Part}
+use Rattle.replay.specs.declared.window.Stream.{Stream}
+use Rattle.replay.specs.Replay.{replayedNumbers, replayAnswer, replayPicture}
+use Rattle.replay.specs.Window.{partNumbers, partAnswer, partPicture, partWindow}
+use Rattle.replay.specs.Listing.{listingText, listingAnswer, listingBytes}
 use Rattle.velbus.specs.Words.{values, refusedWord, outcomeWord, answerWord}
 use Rattle.velbus.specs.Recordings.{putWord}
 use Rattle.velbus.specs.Layout.{messageSize}
 use Rattle.velbus.specs.Frames.{frameSize, readWord, readInto, writeWord, writeInto}
-use Rattle.demands.specs.Order.{Test, Verdict, answers, refuses, verdict, readerOrder, writerOrder, pictureTest, hearingOrder, backOrder, listedOrder, questionOrder, putOrder, readOrder, writeOrder}
+use Rattle.demands.specs.Order.{Test, Verdict, answers, refuses, verdict, readerOrder, writerOrder, pictureTest, hearingOrder, backOrder, listedOrder, questionOrder, putOrder, replayOrder, partOrder, listingOrder, readOrder, writeOrder}
 
--- ---- what each kind of answer comes to
+-- ---- what each kind of answer comes to, by its numbers
+abbrev pub verdictOf : numbers.Numbers → Verdict
+verdictOf (numbers.value v) = answers
+verdictOf (numbers.refusal n) = refuses n
+
 abbrev pub ofReading : Reading → Verdict
-ofReading (reader.Read a m) = answers
-ofReading (reader.Refused n) = refuses n
+ofReading r = verdictOf (readingNumbers r)
 
 abbrev pub ofWriting : Writing → Verdict
-ofWriting (writer.Written f) = answers
-ofWriting (writer.Refused n) = refuses n
+ofWriting w = verdictOf (writingNumbers w)
 
 abbrev pub ofOutcome : Outcome → Verdict
-ofOutcome outcome.Done = answers
-ofOutcome (outcome.Refused n) = refuses n
+ofOutcome o = verdictOf (outcomeNumbers o)
 
 abbrev pub ofAnswer : Answer → Verdict
-ofAnswer (answer.Value v) = answers
-ofAnswer (answer.Refused n) = refuses n
+ofAnswer a = verdictOf (answerNumbers a)
 
 abbrev pub ofPut : Put → Verdict
-ofPut (put.Wrote n) = answers
-ofPut (put.Refused n) = refuses n
+ofPut p = verdictOf (putNumbers p)
+
+abbrev pub ofReplayed : Replayed → Verdict
+ofReplayed r = verdictOf (replayedNumbers r)
+
+abbrev pub ofPart : Part → Verdict
+ofPart p = verdictOf (partNumbers p)
 
 -- and as the word that C is given: a value, or the refusal
 abbrev pub wordOf : Verdict → ℕ → ℕ
@@ -63,6 +72,7 @@ wordOf (refuses n) value = refusedWord n
 -- the value of an answer that is a number
 abbrev pub valueOf : Answer → ℕ
 valueOf (answer.Value v) = v
+valueOf answer.NotHeard = 256
 valueOf (answer.Refused n) = 0
 
 -- ---- calls that are lent a buffer
@@ -102,13 +112,24 @@ pub record Questions : Type 0 where
   pub listed : (b out : List ℕ) → Replied (listedOrder b out) out (listing b out)
   pub each : (b : List ℕ) (a : ℕ) (q : Question) (out : List ℕ) → Replied (questionOrder b a q out) out (reply b a q out)
 
--- recordings: a record put; and one read, where the first fault decides: 15 at the input's end, or 16 at its byte, whatever follows
+-- recordings: a record put; and one read, where the first fault decides: 15 at the input's end, exactly where more bytes could mend it, or 16 at
+-- the byte from which it is certain, whatever follows
 pub record Recordings : Type 0 where
   pub put-record : (b : List ℕ) (at gap identifier remote : ℕ) (ds : List ℕ)
       → Verdicts (putOrder b at gap identifier remote ds) b (ofPut (putAnswer b at gap identifier remote ds)) (putBytes b at gap identifier remote ds)
   pub whole : RecordsAreWhole
   pub placed : FaultsArePlaced
+  pub certain : FaultIsCertain
+  pub mended : CutCanBeMended
+  pub mendable : MendableIsCut
   pub settles : WindowSettles
+
+-- recordings heard, whole and in parts, and the listing of what was heard
+pub record Replaying : Type 0 where
+  pub hear-all : (b s : List ℕ) → Verdicts (replayOrder b) b (ofReplayed (replayAnswer b s)) (replayPicture b s)
+  pub hear-part : (b w : List ℕ) (st : Stream) (n : ℕ) → Verdicts (partOrder b w (st .left) n) b (ofPart (partAnswer b w st n)) (partPicture b w st n)
+  pub window : (b w : List ℕ) (st : Stream) (n : ℕ) → Verdicts (partOrder b w (st .left) n) w (ofPart (partAnswer b w st n)) (partWindow b w st n)
+  pub put-listing : (b out : List ℕ) (st : Stream) → Verdicts (listingOrder b (listingText b st) out) out (ofPut (listingAnswer b out st)) (listingBytes b out st)
 
 -- the words of C, where velbus_picture_size alone has nothing to refuse: of the calls above, and of those that have definitions of their own
 pub record Words : Type 0 where
@@ -117,7 +138,7 @@ pub record Words : Type 0 where
   -- velbus_fresh, hear, step_back
   pub of-outcome : (o : Outcome) → outcomeWord o ≡ wordOf (ofOutcome o) 0
   -- velbus_kept, listed and every question on an address
-  pub of-answer : (a : Answer) → answerWord a ≡ wordOf (ofAnswer a) (valueOf a)
+  pub of-answer : (a : Answer) → answerWord a ≡ wordOf (ofAnswer a) (valueOf a % values)
   pub put-record : (b : List ℕ) (at gap identifier remote : ℕ) (ds : List ℕ)
       → Word (length (recordBytes gap identifier remote ds) % values) (putOrder b at gap identifier remote ds) b
       (putWord (putAnswer b at gap identifier remote ds)) (putBytes b at gap identifier remote ds)
@@ -132,4 +153,5 @@ pub record Demand1 : Type 0 where
   pub pictures : Pictures
   pub questions : Questions
   pub recordings : Recordings
+  pub replaying : Replaying
   pub words : Words

@@ -4,17 +4,17 @@ use Prim.Native.Nat.{ℕ, _<_}
 use mathlib.Core.Path.{_≡_}
 use Rattle.frame.specs.Bytes.{dataBytes}
 use Rattle.frame.specs.Reading.{reading}
-use Rattle.frame.specs.Writing.{writing}
-use Rattle.frame.specs.Statements.{ReadThenWritten, WrittenThenRead, EveryFrame, EveryRequest}
+use Rattle.codec.specs.Writing.{writing}
+use Rattle.codec.specs.Statements.{ReadThenWritten, WrittenThenRead, OneFrame, EveryFrame, EveryRow, EveryRequest}
 use Rattle.frame.specs.declared.identifiers.Address.{Address}
 use Rattle.frame.specs.declared.messages.Message.{Message}
-use Rattle.frame.specs.declared.reader.Reading.the-variants.{Read}
-use Rattle.frame.specs.declared.writer.Frame.{Frame}
-use Rattle.frame.specs.declared.writer.Writing.the-variants.{Written}
+use Rattle.frame.specs.declared.messages.Reading.the-variants.{Read}
+use Rattle.codec.specs.declared.writer.Frame.{Frame}
+use Rattle.codec.specs.declared.writer.Writing.the-variants.{Written}
 use Rattle.places.specs.Limits.{addresses}
 use Rattle.places.specs.Fitting.{RunsLie, RunsFit}
 use Rattle.places.specs.Apart.{Apart, Inside}
-use Rattle.history.specs.Speaks.{SpeaksOf}
+use Rattle.history.specs.Speaks.{NamesNumbered, SpeaksOf}
 use Rattle.history.specs.Effects.{Effects, HearsCommand, HearsEntry, HearsExchange}
 use Rattle.velbus.specs.Statements.{LaidIsHeld, ReadThenWrittenAgain, LaidIsReadBack}
 use Rattle.demands.specs.Order.{answers, verdict, writerOrder}
@@ -30,9 +30,11 @@ abbrev pub LegalIsWritten : Type 0
 LegalIsWritten = (kind : ℕ) (a : Address) (m : Message) → a .0 < addresses → verdict (writerOrder kind m) ≡ answers → ReadsBack kind a m
 
 pub record Demand2 : Type 0 where
-  -- every frame of the documents is read, at every address
+  -- every frame of the documents is read as the message that they define, at every address, and no two frames as the same
   pub every-frame : EveryFrame
+  pub every-row : EveryRow
   pub every-request : EveryRequest
+  pub one-frame : OneFrame
   -- read-then-written is the same frame, for a C caller too
   pub read-then-written : ReadThenWritten
   pub read-then-written-again : ReadThenWrittenAgain
@@ -43,6 +45,7 @@ pub record Demand2 : Type 0 where
   pub laid-is-read-back : LaidIsReadBack
   -- what each message says of each place, all of them places that its type has
   pub speaks-of : SpeaksOf
+  pub names-numbered : NamesNumbered
   pub runs-lie : RunsLie
   pub runs-fit : RunsFit
   -- different things have different places, each in the record

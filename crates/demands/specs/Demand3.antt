@@ -10,12 +10,14 @@ use Rattle.places.specs.declared.answers.Outcome.the-variants.{Done, Refused}
 use Rattle.places.specs.Layout.{size}
 use Rattle.history.specs.Standing.{Frame, Event, hear, back, kept}
 use Rattle.history.specs.Demand3.{Demand3 as ShowsStanding, doing, runBytes, runsBytes, InOrder, ListedIs}
+use Rattle.history.specs.Sentence.{Sentence, SentenceDecides}
 use Rattle.history.specs.Effects.{BackOver, RoomUsedAgain}
+use Rattle.questions.specs.Statements.{RowIsBytes}
 use Rattle.recording.specs.declared.records.Entry.{Entry}
 use Rattle.recording.specs.declared.records.Entry.the-variants.{Record, End, Broken}
 use Rattle.recording.specs.Record.{readRecord}
 use Rattle.replay.specs.Replay.{heardBy, replayed}
-use Rattle.replay.specs.Statements.{TurnsAreReplay}
+use Rattle.replay.specs.Statements.{TurnsAreReplay, AllIsReplay, CallIsTurn}
 
 -- a step back after the events h
 abbrev pub backAfter : List ℕ → List Event → Outcome
@@ -42,6 +44,30 @@ framesFrom (suc steps) s at = framesBy (framesFrom steps s) s (readRecord s at)
 abbrev pub framesOf : List ℕ → List Frame
 framesOf s = framesFrom (suc (length s)) s 0
 
+-- what stands after the unbroken records, from the offset `at` on, at most so many: the end, or the first fault
+abbrev pub stopBy : (ℕ → Entry) → Entry → Entry
+stopBy rest (Record gap identifier remote start len next) = rest next
+stopBy rest End = End
+stopBy rest (Broken refusal offset) = Broken refusal offset
+
+unfoldable pub stopFrom : ℕ → List ℕ → ℕ → Entry
+stopFrom zero s at = End
+stopFrom (suc steps) s at = stopBy (stopFrom steps s) (readRecord s at)
+
+abbrev pub stopOf : List ℕ → Entry
+stopOf s = stopFrom (suc (length s)) s 0
+
+-- its number, 0 where it is no fault, and its offset, the input's length where it is none
+abbrev pub faultOf : Entry → ℕ
+faultOf (Record gap identifier remote start len next) = 0
+faultOf End = 0
+faultOf (Broken refusal offset) = refusal
+
+abbrev pub offsetOf : List ℕ → Entry → ℕ
+offsetOf s (Record gap identifier remote start len next) = length s
+offsetOf s End = length s
+offsetOf s (Broken refusal offset) = offset
+
 -- how many of the frames are accepted, and how many not, heard one after the other
 abbrev pub accepting : Outcome → ℕ
 accepting Done = 1
@@ -55,11 +81,13 @@ unfoldable pub counting : (Outcome → ℕ) → List ℕ → List Frame → ℕ
 counting one b [] = 0
 counting one b (f ∷ fs) = one (doing (hear f) b .outcome) + counting one (doing (hear f) b .buffer) fs
 
--- a recording replayed is its frames heard; heard and refused count the records so answered
+-- a recording replayed is its frames heard; heard and refused count the records so answered; and the fault is the recording's, at its offset
 pub record Replays (b s : List ℕ) : Type 0 where
   pub picture : replayed heardBy b s .picture ≡ runsBytes b (map hear (framesOf s))
   pub heard : replayed heardBy b s .replay .heard ≡ counting accepting b (framesOf s)
   pub refused : replayed heardBy b s .replay .refused ≡ counting refusing b (framesOf s)
+  pub fault : replayed heardBy b s .replay .refusal ≡ faultOf (stopOf s)
+  pub offset : replayed heardBy b s .replay .offset ≡ offsetOf s (stopOf s)
 
 abbrev pub RecordingsHeard : Type 0
 RecordingsHeard = (b s : List ℕ) → Replays b s
@@ -67,6 +95,11 @@ RecordingsHeard = (b s : List ℕ) → Replays b s
 pub record Demand3 : Type 0 where
   -- every question, and the answer to every next frame and step back
   pub shows-standing : ShowsStanding
+  -- and the memory that C copies is the row of numbers
+  pub row-is-bytes : RowIsBytes
+  -- the demand's sentence: what is known of a place is what the latest standing frame since the entry that names it gave, unknown where none does
+  pub sentence : Sentence
+  pub sentence-decides : SentenceDecides
   -- in the order in which frames and steps back happen
   pub in-order : InOrder
   -- a step back is granted exactly while the kept count is above zero
@@ -79,3 +112,6 @@ pub record Demand3 : Type 0 where
   -- the same of a recording, however it is cut
   pub recordings-heard : RecordingsHeard
   pub turns-are-replay : TurnsAreReplay
+  -- and this is what the calls do where nothing is too short
+  pub all-is-replay : AllIsReplay
+  pub call-is-turn : CallIsTurn

@@ -3,25 +3,20 @@ use Prim.Native.Nat.{ℕ, _≤_}
 use mathlib.Core.Path.{_≡_}
 use mathlib.Core.List.{List, [], _∷_, map, reverse}
 use lib.ListN.{length, replicate}
-use Rattle.laws.specs.Refusals.{badIdentifier, badForm, badPriority, wrongPriority, badField, notWhole}
-use Rattle.frame.specs.Identifiers.{low, priorityOf, addressOf}
-use Rattle.frame.specs.Types.{noType, vmb1bl, vmb8ir}
+use Rattle.laws.specs.Refusals.{badIdentifier, badForm, badPriority, wrongPriority, badField, notWhole, badNumber}
+use Rattle.frame.specs.Identifiers.{priorityOf, addressOf}
 use Rattle.frame.specs.Reading.{reading}
 use Rattle.frame.specs.declared.identifiers.Address.{Address}
 use Rattle.frame.specs.declared.messages.Time.the-variants.{DipSwitch, Permanently, Seconds}
-use Rattle.frame.specs.declared.messages.Glow.{Glow}
-use Rattle.frame.specs.declared.messages.Glow.the-variants.{Off, On, Slow, VeryFast}
 use Rattle.frame.specs.declared.messages.Command.{Command}
 use Rattle.frame.specs.declared.messages.Command.the-variants.{BlockTold, NameAsked, BlindUp}
 use Rattle.frame.specs.declared.messages.Message.the-variants.{TypeRequest, Tells}
-use Rattle.frame.specs.declared.reader.Reading.{Reading}
-use Rattle.frame.specs.declared.reader.Reading.the-variants.{Read, Refused}
+use Rattle.frame.specs.declared.messages.Reading.{Reading}
+use Rattle.frame.specs.declared.messages.Reading.the-variants.{Read, Refused}
 use Rattle.places.specs.declared.answers.Answer.{Answer}
-use Rattle.places.specs.declared.answers.Answer.the-variants.{Value}
+use Rattle.places.specs.declared.answers.Answer.the-variants.{Value, NotHeard}
 use Rattle.places.specs.Layout.{size}
-use Rattle.places.specs.Places.{nameLength}
-use Rattle.places.specs.Runs.{glowNumber}
-use Rattle.questions.specs.Question.{Question, cell, led, whole-name, Reply, filled, refusing}
+use Rattle.questions.specs.Question.{Question, cell, led, whole-name, Reply, value, refusing}
 use Rattle.questions.specs.Replies.{reply}
 use Rattle.history.specs.Standing.{Event}
 use Rattle.history.specs.Demand3.{runBytes}
@@ -30,9 +25,10 @@ use Rattle.history.specs.Cases.{low as heard}
 use Rattle.recording.specs.declared.numbers.Number.{Number}
 use Rattle.recording.specs.declared.numbers.Number.the-variants as numbers
 use Rattle.recording.specs.declared.records.Entry.{Entry}
+use Rattle.recording.specs.declared.records.Entry.the-variants.{Broken}
 use Rattle.recording.specs.Limits.{mostGap, gapGroups}
 use Rattle.recording.specs.Number.{numberBytes, readNumber}
-use Rattle.recording.specs.Record.{readRecord, badNumberAt}
+use Rattle.recording.specs.Record.{readRecord}
 
 -- what an edge shows: the priority and the address of an identifier; a frame as it is read; answers; a name; a number's bytes; a number that was
 -- read; what stands at a recording's start
@@ -74,7 +70,7 @@ abbrev pub channel : ℕ
 channel = 3
 
 abbrev pub zeros : List ℕ
-zeros = replicate nameLength 0
+zeros = replicate 16 0
 
 abbrev pub named : List Event → Reply → Row
 named es r = record { given = name (toldTo es (whole-name channel) zeros); right = name r }
@@ -105,10 +101,10 @@ block l = 0xCC ∷ 0x00 ∷ l ∷ 1 ∷ 2 ∷ 3 ∷ 4 ∷ []
 abbrev pub blockTold : ℕ → Command
 blockTold l = BlockTold (record { 0 = l }) 1 2 3 4
 
--- the LEDs 1 to 8 after a frame
-abbrev pub leds : List ℕ → List Glow → Row
-leds s gs =
-    asked (ir ∷ heard s ∷ []) (led 1 ∷ led 2 ∷ led 3 ∷ led 4 ∷ led 5 ∷ led 6 ∷ led 7 ∷ led 8 ∷ []) (map (λ (g : Glow). Value (glowNumber g)) gs)
+-- the LEDs 1 to 8 after a frame: 0 off, 1 on, 2 slow, 3 fast, 4 very fast
+abbrev pub leds : List ℕ → List ℕ → Row
+leds s xs =
+    asked (ir ∷ heard s ∷ []) (led 1 ∷ led 2 ∷ led 3 ∷ led 4 ∷ led 5 ∷ led 6 ∷ led 7 ∷ led 8 ∷ []) (map (λ (x : ℕ). Value x) xs)
 
 -- the blind goes up for a time
 abbrev pub up : ℕ → ℕ → ℕ → List ℕ
@@ -137,37 +133,37 @@ change = heard (0xFC ∷ 0x00 ∷ 0x05 ∷ 0x07 ∷ [])
 -- ---- the table, in the paper's order
 abbrev pub edges : List Row
 edges =
-    -- 1620 is low, address H'2A'; 1621 and 2048: 1; 596: 3
-    identifies lowExample low at
-    ∷ reads vmb8ir 1621 0 (0xCB ∷ []) (Refused badIdentifier)
-    ∷ reads vmb8ir 2048 0 (0xCB ∷ []) (Refused badIdentifier)
-    ∷ reads vmb8ir 596 0 (0xCB ∷ []) (Refused badPriority)
+    -- 1620 is low (3), address H'2A'; 1621 and 2048: 1; 596: 3
+    identifies lowExample 3 at
+    ∷ reads 0x0A 1621 0 (0xCB ∷ []) (Refused badIdentifier)
+    ∷ reads 0x0A 2048 0 (0xCB ∷ []) (Refused badIdentifier)
+    ∷ reads 0x0A 596 0 (0xCB ∷ []) (Refused badPriority)
     -- remote, 1620, no data: type request; remote, 84: 8; remote with one byte: 2
-    ∷ reads noType lowExample 1 [] (Read at TypeRequest)
-    ∷ reads noType highExample 1 [] (Refused wrongPriority)
-    ∷ reads noType lowExample 1 (0x00 ∷ []) (Refused badForm)
+    ∷ reads 0 lowExample 1 [] (Read at TypeRequest)
+    ∷ reads 0 highExample 1 [] (Refused wrongPriority)
+    ∷ reads 0 lowExample 1 (0x00 ∷ []) (Refused badForm)
     -- EF 03: refused 9 for H'0A', accepted for H'03'
-    ∷ reads vmb8ir lowExample 0 (0xEF ∷ 0x03 ∷ []) (Refused badField)
-    ∷ accepts vmb1bl lowExample (0xEF ∷ 0x03 ∷ []) (NameAsked 0x03)
+    ∷ reads 0x0A lowExample 0 (0xEF ∷ 0x03 ∷ []) (Refused badField)
+    ∷ accepts 0x03 lowExample (0xEF ∷ 0x03 ∷ []) (NameAsked 0x03)
     -- CC at H'00FC' accepted, H'00FD' refused 9 for H'0A'; H'007C' and H'007D' likewise for H'03'
-    ∷ accepts vmb8ir lowExample (block 0xFC) (blockTold 0xFC)
-    ∷ reads vmb8ir lowExample 0 (block 0xFD) (Refused badField)
-    ∷ accepts vmb1bl lowExample (block 0x7C) (blockTold 0x7C)
-    ∷ reads vmb1bl lowExample 0 (block 0x7D) (Refused badField)
+    ∷ accepts 0x0A lowExample (block 0xFC) (blockTold 0xFC)
+    ∷ reads 0x0A lowExample 0 (block 0xFD) (Refused badField)
+    ∷ accepts 0x03 lowExample (block 0x7C) (blockTold 0x7C)
+    ∷ reads 0x03 lowExample 0 (block 0x7D) (Refused badField)
     -- F4 01 01 00: LED 1 on, the rest off; F4 00 03 02: LED 1 slow, LED 2 very fast
-    ∷ leds (0xF4 ∷ 0x01 ∷ 0x01 ∷ 0x00 ∷ []) (On ∷ Off ∷ Off ∷ Off ∷ Off ∷ Off ∷ Off ∷ Off ∷ [])
-    ∷ leds (0xF4 ∷ 0x00 ∷ 0x03 ∷ 0x02 ∷ []) (Slow ∷ VeryFast ∷ Off ∷ Off ∷ Off ∷ Off ∷ Off ∷ Off ∷ [])
+    ∷ leds (0xF4 ∷ 0x01 ∷ 0x01 ∷ 0x00 ∷ []) (1 ∷ 0 ∷ 0 ∷ 0 ∷ 0 ∷ 0 ∷ 0 ∷ 0 ∷ [])
+    ∷ leds (0xF4 ∷ 0x00 ∷ 0x03 ∷ 0x02 ∷ []) (2 ∷ 4 ∷ 0 ∷ 0 ∷ 0 ∷ 0 ∷ 0 ∷ 0 ∷ [])
     -- 05 03 00 00 00: dip switch; 05 03 00 00 01: one second; 05 03 FF FF FF: permanently
-    ∷ accepts vmb1bl highExample (up 0x00 0x00 0x00) (BlindUp 0x03 DipSwitch)
-    ∷ accepts vmb1bl highExample (up 0x00 0x00 0x01) (BlindUp 0x03 (Seconds 1))
-    ∷ accepts vmb1bl highExample (up 0xFF 0xFF 0xFF) (BlindUp 0x03 Permanently)
+    ∷ accepts 0x03 highExample (up 0x00 0x00 0x00) (BlindUp 0x03 DipSwitch)
+    ∷ accepts 0x03 highExample (up 0x00 0x00 0x01) (BlindUp 0x03 (Seconds 1))
+    ∷ accepts 0x03 highExample (up 0xFF 0xFF 0xFF) (BlindUp 0x03 Permanently)
     -- F2, F0, F1 for one channel: whole; F2 alone: 14; nothing heard: 14
-    ∷ named (ir ∷ part-three ∷ part-one ∷ part-two ∷ []) (filled wholeName)
+    ∷ named (ir ∷ part-three ∷ part-one ∷ part-two ∷ []) (value 0 wholeName)
     ∷ named (ir ∷ part-three ∷ []) (refusing notWhole zeros)
     ∷ named (ir ∷ []) (refusing notWhole zeros)
     -- FE, then FC on one cell: unknown
     ∷ asked (ir ∷ told ∷ []) (cell 5 ∷ []) (Value 0x2A ∷ [])
-    ∷ asked (ir ∷ told ∷ change ∷ []) (cell 5 ∷ []) (Value 256 ∷ [])
+    ∷ asked (ir ∷ told ∷ change ∷ []) (cell 5 ∷ []) (NotHeard ∷ [])
     -- 3240 is A8 19; 127 is 7F; 128 is 80 01; 80 00: 16
     ∷ written 3240 (0xA8 ∷ 0x19 ∷ [])
     ∷ readAs (0xA8 ∷ 0x19 ∷ []) 3240
@@ -175,7 +171,7 @@ edges =
     ∷ readAs (0x7F ∷ []) 127
     ∷ written 128 (0x80 ∷ 0x01 ∷ [])
     ∷ readAs (0x80 ∷ 0x01 ∷ []) 128
-    ∷ begins (0x80 ∷ 0x00 ∷ []) (badNumberAt 1)
+    ∷ begins (0x80 ∷ 0x00 ∷ []) (Broken badNumber 1)
     ∷ []
 
 -- every edge is right

@@ -9,7 +9,8 @@ use Rattle.laws.specs.Tests.{among}
 use Rattle.frame.specs.Identifiers.{low, priorities, priorityOf, plainIdentifier, wellFormed}
 use Rattle.frame.specs.Types.{noType, moduleTypes, handedTypes, rowFor, isListed, extentOf}
 use Rattle.frame.specs.Bytes.{byte}
-use Rattle.frame.specs.Messages.{typeCommand, encode}
+use Rattle.frame.specs.Messages.{typeCommand}
+use Rattle.codec.specs.Encoding.{encode}
 use Rattle.frame.specs.Fields.{fault}
 use Rattle.frame.specs.declared.messages.Command.{Command}
 use Rattle.frame.specs.declared.messages.Message.{Message}
@@ -172,6 +173,16 @@ questionOrder b a q out =
 abbrev pub putOrder : List ℕ → ℕ → ℕ → ℕ → ℕ → List ℕ → List Test
 putOrder b at gap identifier remote ds =
     inRange gap identifier remote (length ds) or badNumber ∷ leb (at + length (recordBytes gap identifier remote ds)) (length b) or tooShort ∷ []
+
+-- a recording heard; a part of one, of n bytes behind `left` in a window; a listing put: 13 for the picture, then 13 for the buffer
+abbrev pub replayOrder : List ℕ → List Test
+replayOrder b = pictureTest b ∷ []
+
+abbrev pub partOrder : List ℕ → List ℕ → ℕ → ℕ → List Test
+partOrder b w left n = pictureTest b ∷ rowTest (left + n) w ∷ []
+
+abbrev pub listingOrder : List ℕ → List ℕ → List ℕ → List Test
+listingOrder b text out = pictureTest b ∷ rowTest (length text) out ∷ []
 
 -- ---- from C
 -- velbus_read: the reader's own, then 13 for the message

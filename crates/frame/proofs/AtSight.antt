@@ -25,8 +25,7 @@ use Rattle.frame.specs.declared.messages.Command.{Command}
 use Rattle.frame.proofs.Judged.{Framed, Listed, frame-holds, row-held, row-holds}
 use Rattle.frame.proofs.Listed.{listed-module, module-some, module-handed, row-size}
 use Rattle.frame.proofs.Faults.{by-handed}
-use Rattle.frame.proofs.Numbers.{command-number}
-use Rattle.frame.proofs.Shapes.{behind}
+use Rattle.frame.proofs.Numbers.{behind, command-number}
 
 -- a thing that types have some of, and a command of so many bytes that every type with some of it lists at low priority
 module _ (some : Line → ℕ) (c n : ℕ) where

@@ -20,8 +20,7 @@ use Rattle.frame.specs.Fields.{fault}
 use Rattle.frame.specs.Reading.{fieldRefusal, byRow, rowRefusal, commandRefusal}
 use Rattle.frame.specs.declared.bytes.Data.{Data}
 use Rattle.frame.specs.declared.messages.Command.{Command}
-use Rattle.frame.proofs.Shapes.{behind}
-use Rattle.frame.proofs.Numbers.{by-row}
+use Rattle.frame.proofs.Numbers.{behind, by-row}
 
 pub arm : (own c : ℕ) (d : Data) → d .1 ≡ c → {r : ℕ} → r ≡ fault own (decode (behind c d)) → r ≡ fault own (decode (bytesOf d))
 arm own c d e h = h ∙ ap (λ (k : ℕ). fault own (decode (behind k d))) (sym e)

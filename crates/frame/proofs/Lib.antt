@@ -1,9 +1,6 @@
 pub mod Listed
 pub mod Positions
-pub mod Shapes
 pub mod Judged
 pub mod Numbers
 pub mod Faults
 pub mod AtSight
-pub mod Accepted
-pub mod RoundTrip

@@ -5,5 +5,3 @@ pub mod Types
 pub mod Messages
 pub mod Fields
 pub mod Reading
-pub mod Writing
-pub mod Statements

@@ -21,6 +21,13 @@ vmb1bl = 0x03
 abbrev pub vmb8ir : ℕ
 vmb8ir = 0x0A
 
+-- the type frame has two shapes, of seven bytes and of five
+abbrev pub longType : ℕ
+longType = 7
+
+abbrev pub shortType : ℕ
+shortType = 5
+
 -- a row of a type's list: a command, its length, its priority
 pub record Entry : Type 0 where
   pub command : ℕ
@@ -52,7 +59,7 @@ everyType =
 -- H'0A' only
 abbrev pub vmb8irOnly : List Entry
 vmb8irOnly =
-    row 0xFF 7 low
+    row 0xFF longType low
     ∷ row 0xEB 5 low
     ∷ row 0xF4 4 low
     ∷ row 0xF5 2 low
@@ -65,7 +72,7 @@ vmb8irOnly =
 -- H'03' only
 abbrev pub vmb1blOnly : List Entry
 vmb1blOnly =
-    row 0xFF 5 low
+    row 0xFF shortType low
     ∷ row 0xEC 8 low
     ∷ row 0x04 2 high
     ∷ row 0x05 5 high

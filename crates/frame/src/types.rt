@@ -28,6 +28,11 @@ pub const VMB1BL: u32 = 0x03;
 
 pub const VMB8IR: u32 = 0x0A;
 
+// How many bytes the type frame has in each of its two shapes.
+pub const LONG: usize = 7;
+
+pub const SHORT: usize = 5;
+
 // A command's length and its priority; length 0 where the type has no such command.
 pub struct Row(pub usize, pub u32);
 
@@ -87,7 +92,7 @@ fn vmb8ir(command: u8) -> Row
     ensures { λ r. ⌜ r ≡ find (vmb8irOnly ++ everyType) command ⌝ }
 {
     match command {
-        0xFF => Row(7, LOW),
+        0xFF => Row(LONG, LOW),
         0xEB => Row(5, LOW),
         0xF4 => Row(4, LOW),
         0xF5 => Row(2, LOW),
@@ -103,7 +108,7 @@ fn vmb1bl(command: u8) -> Row
     ensures { λ r. ⌜ r ≡ find (vmb1blOnly ++ everyType) command ⌝ }
 {
     match command {
-        0xFF => Row(5, LOW),
+        0xFF => Row(SHORT, LOW),
         0xEC => Row(8, LOW),
         0x04 => Row(2, HIGH),
         0x05 => Row(5, HIGH),

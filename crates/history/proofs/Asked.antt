@@ -9,19 +9,22 @@ use mathlib.Core.Option.{Option, none, some}
 use lib.Dec.{eqb, ltb, leb}
 use lib.ListN.{getD, length}
 use borrow.Author.Tests.{eqb-true, eqb-false, eq-eqb, ne-eqb, ltb-true, lt-ltb, leb-true}
-use Rattle.laws.specs.Refusals.{noSuchPlace, tooShort, notWhole}
+use Rattle.laws.specs.Refusals.{tooShort, notWhole}
+use Rattle.laws.specs.Tab.{tab}
 use Rattle.laws.proofs.Tab.{getD-tab, tab-ext}
 use Rattle.frame.specs.Types.{extentOf}
+use Rattle.places.specs.declared.answers.Answer.{Answer}
+use Rattle.places.specs.declared.answers.Answer.the-variants.{Value, NotHeard}
 use Rattle.places.specs.Limits.{room, addresses}
-use Rattle.places.specs.Places.{places, yearPlace, weekPlace, cellAsked, ledAsked, blindAsked, hasName, nameLength, Row, nameRow, cellRow}
+use Rattle.places.specs.Places.{places, nowhere, yearPlace, weekPlace, ledPlace, blindPlace, characterPlace, cellPlace, cellAsked, ledAsked, blindAsked, hasName, Row, nameRow, cellRow}
 use Rattle.places.specs.Layout.{placeAt}
 use Rattle.places.specs.Head.{noSlot, slotOf, kindIn}
 use Rattle.places.proofs.Fitting.{extents-small}
-use Rattle.questions.specs.Question.{Question, type-of, build-year, build-week, cell, led, blind, name-heard, whole-name, memory-row, memory-bytes, Reply, value, filled, refusing}
-use Rattle.questions.specs.Fills.{filledTo, rowNumber, lowFirst, numbersFill, bytesFill}
+use Rattle.questions.specs.Question.{Question, type-of, build-year, build-week, cell, led, blind, name-heard, whole-name, memory-row, memory-bytes, Reply, answering, filled, refusing}
+use Rattle.questions.specs.Fills.{filledTo, valueAt, heardAt, rowNumber, lowFirst as byteOf, numbersFill, bytesFill}
 use Rattle.questions.specs.Replies.{slotAsked, placeReply, characterHeard, characterValue, sumTo, heardReply, nameReply, replyAs, replyIn, reply, listedIf, listing}
 use Rattle.history.specs.Standing.{Frame, Known, unknown, told, typeOf, latest}
-use Rattle.history.specs.Asked.{numberOf, heardOf, toldPlace, over, overRow, eachOf, eachInBytes, andHeard, allHeard, toldName, toldAs, toldReply, yesIf, toldListed}
+use Rattle.history.specs.Asked.{answerOf, numberOf, heardOf, oneTo, toldIf, over, overRow, eachOf, lowFirst, andHeard, allHeard, nameSize, toldName, toldAs, toldReply, yesIf, toldListed}
 use Rattle.history.specs.Demand3.{Tells}
 use Rattle.history.specs.Machine.{Module, find, slot}
 use Rattle.history.specs.Refinement.{cellOf, cellAt, moduleAt, stateOf, Good}
@@ -33,13 +36,20 @@ use Rattle.history.proofs.Fills.{filled-over, filling-over}
 
 -- ---- the two bytes of a place that holds k
 record Holds (v t : ℕ) (k : Known) : Type 0 where
+  answer : cond (eqb v 0 && eqb t 1) NotHeard (Value (v + 256 * t)) ≡ answerOf k
   number : v + 256 * t ≡ numberOf k
   heard : cond (eqb t 0) 1 0 ≡ heardOf k
   byte : heardOf k ≡ 1 → v ≡ numberOf k
 
 cell-holds : (v t : ℕ) (k : Known) → cellOf v t ≡ some k → Holds v t k
-cell-holds v zero k e = let q : told v ≡ k = cc in rw (← q) (record { number = omega arith; heard = refl; byte = λ h. refl })
-cell-holds zero (suc zero) k e = let q : unknown ≡ k = cc in rw (← q) (record { number = refl; heard = refl; byte = λ h. absurd (omega arith) })
+cell-holds v zero k e =
+    let q : told v ≡ k = cc in
+    rw (← q) (record { answer = go (eqb v 0); number = omega arith; heard = refl; byte = λ h. refl })
+  where
+    go : (c : Bool) → cond (c && false) NotHeard (Value (v + 0)) ≡ Value v
+    go true = ap Value (omega arith)
+    go false = ap Value (omega arith)
+cell-holds zero (suc zero) k e = let q : unknown ≡ k = cc in rw (← q) (record { answer = refl; number = refl; heard = refl; byte = λ h. absurd (omega arith) })
 cell-holds zero (suc (suc t)) k e = absurd (none-some e)
 cell-holds (suc v) (suc t) k e = absurd (none-some e)
 
@@ -82,88 +92,127 @@ unfolding sumTo
 sum-ext f g zero h = refl
 sum-ext f g (suc n) h = rw (sum-ext f g n (λ i l. h i (omega arith)), h n (omega arith))
 
+-- numbers in two bytes each, one byte at a time
+two-bytes : (n : ℕ) (f : ℕ → ℕ) → tab (2 * n) (byteOf f) ≡ lowFirst (tab n f)
+unfolding tab lowFirst
+two-bytes zero f = refl
+two-bytes (suc n) f =
+    let twice : 2 * suc n ≡ suc (suc (2 * n)) = omega arith in
+    rw (twice, tab-ext (2 * n) (λ j. byteOf f (suc (suc j))) (byteOf (λ i. f (suc i))) (λ j l. later j), two-bytes n (λ i. f (suc i)))
+  where
+    later : (j : ℕ) → byteOf f (suc (suc j)) ≡ byteOf (λ i. f (suc i)) j
+    later j =
+        let even : suc (suc j) % 2 ≡ j % 2 = omega arith in
+        let half : suc (suc j) / 2 ≡ suc (j / 2) = omega arith in
+        rw (even, half)
+
 -- ---- the module in slot s, of whose places `known` tells
 module _ (b : List ℕ) (s : ℕ) (known : ℕ → Known) (cells : (p : ℕ) → p < places → cellAt b (placeAt s p) ≡ some (known p)) where
   holds : (p : ℕ) → p < places → Holds (getD b (placeAt s p) 0) (getD b (placeAt s p + 1) 0) (known p)
   unfolding cellAt
   holds p l = cell-holds _ _ (known p) (cells p l)
 
-  place-told : (p : ℕ) (out : List ℕ) → placeReply b s p out ≡ toldPlace known p out
+  place-told : (p : ℕ) (out : List ℕ) → p < places → placeReply b s p out ≡ answering (answerOf (known p)) out
   unfolding placeReply
-  place-told p out = go (ltb p places) refl
-    where
-      go : (c : Bool) → ltb p places ≡ c
-          → cond c (value (getD b (placeAt s p) 0 + 256 * getD b (placeAt s p + 1) 0) out) (refusing noSuchPlace out) ≡ cond c (value (numberOf (known p)) out) (refusing noSuchPlace out)
-      go true e = ap (λ (n : ℕ). value n out) (holds p (ltb-true p places e) .number)
-      go false e = refl
+  place-told p out l = rw (lt-ltb p places l) (ap (λ (x : Answer). answering x out) (holds p l .answer))
+
+  -- a place that the type may not have
+  place-if : (has : Bool) (p : ℕ) (out : List ℕ) → (has ≡ true → p < places) → placeReply b s (cond has p nowhere) out ≡ toldIf has (known p) out
+  unfolding placeReply
+  place-if true p out h = place-told p out (h refl)
+  place-if false p out h = refl
 
   -- a row of its places
-  module _ (row : Row) (inside : row .start + row .count ≤ places) where
-    number-told : (i : ℕ) → i < row .count → rowNumber b s row i ≡ numberOf (known (row .start + i))
-    number-told i l = holds (row .start + i) (omega arith) .number
+  module _ (row : Row) (place : ℕ → ℕ) (at : (i : ℕ) → row .start + i ≡ place i) (inside : (i : ℕ) → i < row .count → place i < places) where
+    number-told : (i : ℕ) → i < row .count → rowNumber b s row i ≡ numberOf (known (place i))
+    number-told i l = ap (λ (p : ℕ). valueAt b (placeAt s p)) (at i) ∙ holds (place i) (inside i l) .number
 
-    numbers-told : (out : List ℕ) → numbersFill b s row out ≡ overRow (eachOf numberOf known row) out
+    numbers-told : (out : List ℕ) → numbersFill b s row out ≡ overRow (eachOf numberOf (row .count) (λ i. known (place i))) out
     unfolding numbersFill
-    numbers-told out = filling-over (rowNumber b s row) (λ i. numberOf (known (row .start + i))) (row .count) out number-told
+    numbers-told out = filling-over (rowNumber b s row) (λ i. numberOf (known (place i))) (row .count) out number-told
 
-    bytes-told : (out : List ℕ) → bytesFill b s row out ≡ overRow (eachInBytes known row) out
+    bytes-told : (out : List ℕ) → bytesFill b s row out ≡ overRow (lowFirst (eachOf numberOf (row .count) (λ i. known (place i)))) out
     unfolding bytesFill
     bytes-told out =
-        filling-over (lowFirst (rowNumber b s row)) (lowFirst (λ i. numberOf (known (row .start + i)))) (2 * row .count) out
+        filling-over (byteOf (rowNumber b s row)) (byteOf (λ i. numberOf (known (place i)))) (2 * row .count) out
         (λ j l. ap (λ (n : ℕ). cond (eqb (j % 2) 0) (n % 256) (n / 256)) (number-told (j / 2) (omega arith)))
+        ∙ ap (λ (x : List ℕ). overRow x out) (two-bytes (row .count) (λ i. numberOf (known (place i))))
+
+    heard-told : (i : ℕ) → i < row .count → characterHeard b s row i ≡ heardOf (known (place i))
+    heard-told i l = ap (λ (p : ℕ). heardAt b (placeAt s p)) (at i) ∙ holds (place i) (inside i l) .heard
+
+    value-told : (i : ℕ) → i < row .count → heardOf (known (place i)) ≡ 1 → characterValue b s row i ≡ numberOf (known (place i))
+    value-told i l h = ap (λ (p : ℕ). getD b (placeAt s p) 0) (at i) ∙ holds (place i) (inside i l) .byte h
 
   -- a name
-  module _ (start : ℕ) (inside : start + nameLength ≤ places) where
+  module _ (start : ℕ) (place : ℕ → ℕ) (at : (i : ℕ) → start + i ≡ place i) (inside : (i : ℕ) → i < nameSize → place i < places) where
     abbrev characters : Row
-    characters = record { start = start; count = nameLength }
+    characters = record { start = start; count = nameSize }
 
-    heard-told : (i : ℕ) → i < nameLength → characterHeard b s characters i ≡ heardOf (known (start + i))
-    heard-told i l = holds (start + i) (omega arith) .heard
+    abbrev name : ℕ → Known
+    name i = known (place i)
 
-    each-told : (out : List ℕ) → heardReply b s characters out ≡ overRow (eachOf heardOf known characters) out
+    each-told : (out : List ℕ) → heardReply b s characters out ≡ overRow (eachOf heardOf nameSize name) out
     unfolding heardReply
-    each-told out = filling-over (characterHeard b s characters) (λ i. heardOf (known (start + i))) nameLength out heard-told
+    each-told out = filling-over (characterHeard b s characters) (λ i. heardOf (name i)) nameSize out (heard-told characters place at inside)
 
-    name-told : (out : List ℕ) → nameReply b s characters out ≡ toldName known characters out
+    name-told : (out : List ℕ) → nameReply b s characters out ≡ toldName name out
     unfolding nameReply toldName
     name-told out =
-        rw (sum-ext (characterHeard b s characters) (λ i. heardOf (known (start + i))) nameLength heard-told, heard-all (λ i. known (start + i)) nameLength)
-        (go (leb nameLength (length out)) (allHeard nameLength (λ i. known (start + i))) refl refl)
+        rw (sum-ext (characterHeard b s characters) (λ i. heardOf (name i)) nameSize (heard-told characters place at inside), heard-all name nameSize)
+        (go (leb nameSize (length out)) (allHeard nameSize name) refl refl)
       where
-        go : (c w : Bool) → leb nameLength (length out) ≡ c → allHeard nameLength (λ i. known (start + i)) ≡ w
-            → cond c (cond w (filled (filledTo (characterValue b s characters) out nameLength)) (refusing notWhole out)) (refusing tooShort out)
-            ≡ cond c (cond w (filled (over (eachOf numberOf known characters) out)) (refusing notWhole out)) (refusing tooShort out)
+        go : (c w : Bool) → leb nameSize (length out) ≡ c → allHeard nameSize name ≡ w
+            → cond c (cond w (filled (filledTo (characterValue b s characters) out nameSize)) (refusing notWhole out)) (refusing tooShort out)
+            ≡ cond c (cond w (filled (over (eachOf numberOf nameSize name) out)) (refusing notWhole out)) (refusing tooShort out)
         go true true e f =
             ap filled
-            (filled-over (characterValue b s characters) out nameLength (leb-true nameLength (length out) e)
+            (filled-over (characterValue b s characters) out nameSize (leb-true nameSize (length out) e)
             ∙ ap (λ (x : List ℕ). over x out)
-            (tab-ext nameLength (characterValue b s characters) (λ i. numberOf (known (start + i)))
-            (λ i l. holds (start + i) (omega arith) .byte (all-each (λ i. known (start + i)) nameLength f i l))))
+            (tab-ext nameSize (characterValue b s characters) (λ i. numberOf (name i))
+            (λ i l. value-told characters place at inside i l (all-each name nameSize f i l))))
         go true false e f = refl
         go false w e f = refl
 
   -- by the type
-  if-named : (kind n : ℕ) (x y z : Reply) → (nameRow kind n .start + nameLength ≤ places → x ≡ y) → cond (hasName kind n) x z ≡ cond (hasName kind n) y z
-  unfolding hasName
-  if-named kind n x y z h = go (leb 1 n) (leb n (extentOf kind .names)) refl
+  counted : (most n : ℕ) → oneTo most n ≡ true → n ≤ most
+  counted most n e = go (leb 1 n) (leb n most) refl e
     where
-      go : (c d : Bool) → leb n (extentOf kind .names) ≡ d → cond (c && d) x z ≡ cond (c && d) y z
-      go true true e = let l = leb-true n (extentOf kind .names) e in h (omega (arith, extents-small kind .names-small))
-      go true false e = refl
-      go false d e = refl
+      go : (c d : Bool) → leb n most ≡ d → (c && d) ≡ true → n ≤ most
+      go true true q e = leb-true n most q
+      go true false q e = absurd (let z : _≡_ {A = ℕ} 0 1 = cc in omega arith)
+      go false d q e = absurd (let z : _≡_ {A = ℕ} 0 1 = cc in omega arith)
 
-  as-told : (kind : ℕ) (q : Question) (out : List ℕ) → replyAs b s kind q out ≡ toldAs kind known q out
-  unfolding replyAs toldAs
-  as-told kind type-of out = refl
-  as-told kind build-year out = place-told yearPlace out
-  as-told kind build-week out = place-told weekPlace out
-  as-told kind (cell location) out = place-told (cellAsked kind location) out
-  as-told kind (led n) out = place-told (ledAsked kind n) out
-  as-told kind (blind n) out = place-told (blindAsked kind n) out
-  as-told kind (name-heard n) out = if-named kind n _ _ _ (λ l. each-told (nameRow kind n .start) l out)
-  as-told kind (whole-name n) out = if-named kind n _ _ _ (λ l. name-told (nameRow kind n .start) l out)
-  as-told kind memory-row out = numbers-told (cellRow kind) (omega (arith, extents-small kind .cells-small)) out
-  as-told kind memory-bytes out = bytes-told (cellRow kind) (omega (arith, extents-small kind .cells-small)) out
+  if-named : (has : Bool) (x y z : Reply) → (has ≡ true → x ≡ y) → cond has x z ≡ cond has y z
+  if-named true x y z h = h refl
+  if-named false x y z h = refl
+
+  module _ (kind : ℕ) where
+    named : (n : ℕ) → oneTo (extentOf kind .names) n ≡ true → (i : ℕ) → i < nameSize → characterPlace kind n (i + 1) < places
+    named n e i l = omega (arith, counted (extentOf kind .names) n e, extents-small kind .names-small)
+
+    as-told : (q : Question) (out : List ℕ) → replyAs b s kind q out ≡ toldAs kind known q out
+    unfolding replyAs toldAs cellAsked ledAsked blindAsked hasName
+    as-told type-of out = refl
+    as-told build-year out = place-told yearPlace out (omega arith)
+    as-told build-week out = place-told weekPlace out (omega arith)
+    as-told (cell location) out =
+        let few = extentOf kind .cells in
+        place-if (ltb location few) (cellPlace kind location) out (λ e. omega (arith, ltb-true location few e, extents-small kind .cells-small))
+    as-told (led n) out =
+        let few = extentOf kind .leds in
+        place-if (oneTo few n) (ledPlace n) out (λ e. omega (arith, counted few n e, extents-small kind .leds-small))
+    as-told (blind n) out =
+        let few = extentOf kind .blinds in
+        place-if (oneTo few n) (blindPlace n) out (λ e. omega (arith, counted few n e, extents-small kind .blinds-small))
+    as-told (name-heard n) out =
+        if-named (oneTo (extentOf kind .names) n) _ _ _
+        (λ e. each-told (nameRow kind n .start) (λ i. characterPlace kind n (i + 1)) (λ i. omega arith) (named n e) out)
+    as-told (whole-name n) out =
+        if-named (oneTo (extentOf kind .names) n) _ _ _
+        (λ e. name-told (nameRow kind n .start) (λ i. characterPlace kind n (i + 1)) (λ i. omega arith) (named n e) out)
+    as-told memory-row out = numbers-told (cellRow kind) (cellPlace kind) (λ i. omega arith) (λ i l. omega (arith, extents-small kind .cells-small)) out
+    as-told memory-bytes out = bytes-told (cellRow kind) (cellPlace kind) (λ i. omega arith) (λ i l. omega (arith, extents-small kind .cells-small)) out
 
 -- ---- the module at an address
 record Seen (b : List ℕ) (S : List Frame) (a s kind : ℕ) : Type 0 where

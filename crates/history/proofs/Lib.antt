@@ -18,6 +18,7 @@ pub mod Steps
 pub mod Fills
 pub mod Asked
 pub mod Demand3
+pub mod Sentence
 pub mod Effects
 pub mod Refused
 pub mod Speaks

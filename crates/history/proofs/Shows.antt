@@ -1,5 +1,5 @@
 -- The list of modules shows what the standing frames tell, and goes on doing so at each accepted frame. Assumes nothing.
-use Prim.Native.Nat.{ℕ, suc, _<_, _+_}
+use Prim.Native.Nat.{ℕ, suc, _<_}
 use native.Mathlib.Numerals.{add-one}
 use mathlib.Core.Path.{_≡_, refl, sym, ap, _∙_, subst}
 use mathlib.Core.Bool.{Bool, true, false, cond}

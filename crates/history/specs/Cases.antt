@@ -5,7 +5,7 @@ use mathlib.Core.Path.{_≡_}
 use lib.ListN.{length}
 use Rattle.laws.specs.Refusals.{noSuchPlace}
 use Rattle.places.specs.declared.answers.Answer.{Answer}
-use Rattle.places.specs.declared.answers.Answer.the-variants.{Value, Refused}
+use Rattle.places.specs.declared.answers.Answer.the-variants.{Value, NotHeard, Refused}
 use Rattle.places.specs.Layout.{size}
 use Rattle.questions.specs.Question.{Question, Reply, build-year, cell, led, blind}
 use Rattle.questions.specs.Replies.{reply}
@@ -49,18 +49,18 @@ abbrev pub cases : List Case
 cases =
     case (ir ∷ []) build-year (Value 0x0C)
     -- an unread cell is neither 0 nor H'FF'
-    ∷ case (ir ∷ []) (cell 5) (Value 256)
+    ∷ case (ir ∷ []) (cell 5) NotHeard
     -- the LEDs with a one, and no other
     ∷ case (ir ∷ low (0xF8 ∷ 0x02 ∷ []) ∷ []) (led 2) (Value 3)
-    ∷ case (ir ∷ low (0xF8 ∷ 0x02 ∷ []) ∷ []) (led 1) (Value 256)
+    ∷ case (ir ∷ low (0xF8 ∷ 0x02 ∷ []) ∷ []) (led 1) NotHeard
     -- four cells told; a step back over them
     ∷ case (ir ∷ low (0xCC ∷ 0x00 ∷ 0x80 ∷ 0x05 ∷ 0x2A ∷ 0x03 ∷ 0x4C ∷ []) ∷ []) (cell 0x83) (Value 0x4C)
-    ∷ case (ir ∷ low (0xCC ∷ 0x00 ∷ 0x80 ∷ 0x05 ∷ 0x2A ∷ 0x03 ∷ 0x4C ∷ []) ∷ back ∷ []) (cell 0x83) (Value 256)
+    ∷ case (ir ∷ low (0xCC ∷ 0x00 ∷ 0x80 ∷ 0x05 ∷ 0x2A ∷ 0x03 ∷ 0x4C ∷ []) ∷ back ∷ []) (cell 0x83) NotHeard
     -- the blind's state told, and unknown once it is moved
     ∷ case (bl ∷ low (0xEC ∷ 0x03 ∷ 0x00 ∷ 0x02 ∷ 0x00 ∷ 0x00 ∷ 0x00 ∷ 0x00 ∷ []) ∷ []) (blind 1) (Value 2)
-    ∷ case (bl ∷ low (0xEC ∷ 0x03 ∷ 0x00 ∷ 0x02 ∷ 0x00 ∷ 0x00 ∷ 0x00 ∷ 0x00 ∷ []) ∷ high (0x04 ∷ 0x03 ∷ []) ∷ []) (blind 1) (Value 256)
+    ∷ case (bl ∷ low (0xEC ∷ 0x03 ∷ 0x00 ∷ 0x02 ∷ 0x00 ∷ 0x00 ∷ 0x00 ∷ 0x00 ∷ []) ∷ high (0x04 ∷ 0x03 ∷ []) ∷ []) (blind 1) NotHeard
     -- an exchanged module keeps nothing
-    ∷ case (ir ∷ low (0xFE ∷ 0x00 ∷ 0x05 ∷ 0x2A ∷ []) ∷ bl ∷ []) (cell 5) (Value 256)
+    ∷ case (ir ∷ low (0xFE ∷ 0x00 ∷ 0x05 ∷ 0x2A ∷ []) ∷ bl ∷ []) (cell 5) NotHeard
     ∷ case (ir ∷ bl ∷ []) (cell 128) (Refused noSuchPlace)
     ∷ case (ir ∷ bl ∷ []) (led 1) (Refused noSuchPlace)
     ∷ case (ir ∷ []) (blind 1) (Refused noSuchPlace)

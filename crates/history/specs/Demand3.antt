@@ -8,7 +8,6 @@ use mathlib.Core.Option.{Option, none, some}
 use lib.ListN.{length, getD}
 use Rattle.places.specs.declared.answers.Answer.the-variants.{Value}
 use Rattle.places.specs.declared.answers.Outcome.the-variants.{Refused}
-use Rattle.places.specs.Limits.{addresses}
 use Rattle.places.specs.Places.{places}
 use Rattle.places.specs.Result.{Result}
 use Rattle.places.specs.Layout.{size}
@@ -37,13 +36,13 @@ pub record Agrees (h : List Event) : Type 0 where
 abbrev pub MachineAgrees : Type 0
 MachineAgrees = (h : List Event) → Agrees h
 
--- The number of modules listed is the number of addresses with a type.
+-- The number of modules listed is the number of the 256 addresses with a type.
 unfoldable pub listedBelow : ℕ → List Frame → ℕ
 listedBelow zero S = 0
 listedBelow (suc n) S = yesIf (typeOf S n) + listedBelow n S
 
 abbrev pub ListedIs : Type 0
-ListedIs = (S : List Frame) → listed S ≡ listedBelow addresses S
+ListedIs = (S : List Frame) → listed S ≡ listedBelow 256 S
 
 -- ---- the bytes
 -- what an event does to the bytes

@@ -11,14 +11,13 @@ use Rattle.frame.specs.Types.{noType}
 use Rattle.frame.specs.Reading.{reading}
 use Rattle.frame.specs.declared.messages.Command.{Command}
 use Rattle.frame.specs.declared.messages.Message.the-variants as message
-use Rattle.frame.specs.declared.reader.Reading.the-variants.{Read}
+use Rattle.frame.specs.declared.messages.Reading.the-variants.{Read}
 use Rattle.places.specs.declared.answers.Outcome.the-variants.{Done, Refused}
-use Rattle.places.specs.Limits.{room}
 use Rattle.places.specs.Runs.{Run, said, Meaning, refuses, names, enters, meaningOf}
 use Rattle.places.specs.Layout.{size}
 use Rattle.questions.specs.Question.{Question}
 use Rattle.questions.specs.Replies.{reply, listing}
-use Rattle.history.specs.Standing.{Frame, address, sense, meaning, Known, unknown, after, typeOf, latest, listed, accepted, judgement, Event, hear, back, standing, kept}
+use Rattle.history.specs.Standing.{mostListed, Frame, address, sense, meaning, Known, unknown, after, typeOf, latest, listed, accepted, judgement, Event, hear, back, standing, kept}
 use Rattle.history.specs.Demand3.{doing, runBytes, Tells}
 
 -- Every question on the address a, with any lent buffer, is answered alike.
@@ -61,7 +60,7 @@ HearsCommand =
 abbrev pub HearsEntry : Type 0
 HearsEntry =
     (b : List ℕ) → size ≤ length b → (h : List Event) (f : Frame) (m : Command) (k : ℕ) (r : Run) → typeOf (standing h) (address f) ≡ none
-    → Reads noType f m → meaningOf noType m ≡ enters k r → listed (standing h) < room → HeardAs b h f (some k) (λ p. after (said r p) unknown)
+    → Reads noType f m → meaningOf noType m ≡ enters k r → listed (standing h) < mostListed → HeardAs b h f (some k) (λ p. after (said r p) unknown)
 
 -- FF of another type at a listed module: likewise, and no step back is kept
 abbrev pub HearsExchange : Type 0
@@ -83,7 +82,7 @@ BackOver =
 
 -- The sixteenth module is entered by f, and g would enter a seventeenth: it is refused; after a step back it has the room.
 pub record Sixteenth (S : List Frame) (f g : Frame) (k l : ℕ) (r q : Run) : Type 0 where
-  pub fifteen : suc (listed S) ≡ room
+  pub fifteen : suc (listed S) ≡ mostListed
   pub f-new : typeOf S (address f) ≡ none
   pub f-enters : meaning none f ≡ enters k r
   pub g-new : typeOf S (address g) ≡ none

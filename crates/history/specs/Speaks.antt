@@ -1,65 +1,126 @@
--- What a message says of each place that it names, as document 01 has it. The proof is proofs/Speaks.antt.
-use Prim.Native.Nat.{ℕ, _+_, _<_, _≤_}
+-- What a message says, as document 01 has it: of each place that it names, and silence of every other. The proof is proofs/Speaks.antt.
+use Prim.Native.Nat.{ℕ, _+_, _/_, _%_, _^_, _<_, _≤_}
 use mathlib.Core.Path.{_≡_}
-use mathlib.Core.Bool.{cond}
-use mathlib.Core.List.{List, [], _∷_}
+use mathlib.Core.Bool.{Bool, cond, _&&_}
+use mathlib.Core.Logic.{_≢_, _⊎_}
+use mathlib.Core.List.{List, [], _∷_, map}
 use lib.Dec.{eqb}
 use lib.ListN.{getD}
-use Rattle.frame.specs.declared.messages.Location.{Location}
-use Rattle.frame.specs.declared.messages.Time.{Time}
 use Rattle.frame.specs.declared.messages.Glow.{Glow}
+use Rattle.frame.specs.declared.messages.Glow.the-variants.{Off, On, Slow, Fast, VeryFast}
 use Rattle.frame.specs.declared.messages.Command.{Command}
-use Rattle.frame.specs.declared.messages.Command.the-variants.{TypeLong, TypeShort, CellTold, BlockTold, CellSet, BlockSet, NameOne, NameTwo, NameThree, InputStatus, LedsAll, Leds, BlindStatus, BlindStop, BlindUp, BlindDown}
+use Rattle.frame.specs.declared.messages.Command.the-variants.{TypeLong, TypeShort, Buttons, CellTold, BlockTold, CellAsked, BlockAsked, DumpAsked, CellSet, BlockSet, Errors, ErrorsAsked, NameOne, NameTwo, NameThree, NameAsked, StatusAsked, InputStatus, LedsAll, Leds, BlindStatus, BlindStop, BlindUp, BlindDown}
+use Rattle.frame.specs.declared.messages.Message.{Message}
+use Rattle.frame.specs.declared.messages.Message.the-variants.{TypeRequest, Tells}
 use Rattle.frame.specs.Types.{nameOf}
 use Rattle.places.specs.Places.{yearPlace, weekPlace, ledPlace, blindPlace, characterPlace, cellPlace}
-use Rattle.places.specs.Runs.{Saying, silent, asks, tells, Run, said, bit, glowNumber, glowBy, meaningOf, runIn}
-use Rattle.places.specs.Fitting.{endOf}
+use Rattle.places.specs.Runs.{Saying, silent, asks, tells, Run, said, Meaning, refuses, names, enters, meant}
 
--- what a message says of the place p; and a row of values, told one after the other
-abbrev pub says : ℕ → Command → ℕ → Saying
-says kind m p = said (runIn (meaningOf kind m)) p
-
+-- ---- what is said
+-- a row of values, told one after the other; a change asked for, of each
 abbrev pub tellsOf : List ℕ → ℕ → Saying
 tellsOf values i = tells (getD values i 0)
 
+abbrev pub asksAll : ℕ → Saying
+asksAll i = asks
+
+-- bit i of a byte, counted from 0, is a one
+abbrev pub isOne : ℕ → ℕ → Bool
+isOne byte i = eqb (byte / 2 ^ i % 2) 1
+
+-- the numbers of the LED states
+abbrev pub ledNumber : Glow → ℕ
+ledNumber Off = 0
+ledNumber On = 1
+ledNumber Slow = 2
+ledNumber Fast = 3
+ledNumber VeryFast = 4
+
 -- on if the on bit is set; else very fast if both others are; else slow, fast or off
+abbrev pub ledState : Bool → Bool → Bool → Glow
+ledState on slow fast = cond on On (cond (slow && fast) VeryFast (cond slow Slow (cond fast Fast Off)))
+
+-- LED i + 1: by the three bytes; and by a mask, if it has a one there
 abbrev pub tellsLed : ℕ → ℕ → ℕ → ℕ → Saying
-tellsLed on slow fast i = tells (glowNumber (glowBy (bit on i) (bit slow i) (bit fast i)))
+tellsLed on slow fast i = tells (ledNumber (ledState (isOne on i) (isOne slow i) (isOne fast i)))
 
--- the places outside a run
-abbrev pub Outside : Run → ℕ → Type 0
-Outside r p = r .start ≤ p → p < endOf r → ⊥
+abbrev pub tellsIf : Glow → ℕ → ℕ → Saying
+tellsIf g mask i = cond (isOne mask i) (tells (ledNumber g)) silent
 
--- What each message that names a place says of it.
-pub record Speaks (kind : ℕ) : Type 0 where
-  -- FE and CC tell cells, FC and CA ask for a change of them
-  pub cell-told : (l : Location) (v : ℕ) → says kind (CellTold l v) (cellPlace kind (l .0)) ≡ tells v
-  pub block-told : (l : Location) (a b c d i : ℕ) → i < 4 → says kind (BlockTold l a b c d) (cellPlace kind (l .0) + i) ≡ tellsOf (a ∷ b ∷ c ∷ d ∷ []) i
-  pub cell-asked : (l : Location) (v : ℕ) → says kind (CellSet l v) (cellPlace kind (l .0)) ≡ asks
-  pub block-asked : (l : Location) (a b c d i : ℕ) → i < 4 → says kind (BlockSet l a b c d) (cellPlace kind (l .0) + i) ≡ asks
-  -- F0, F1, F2 tell characters 1 to 6, 7 to 12, 13 to 16 of the name
-  pub part-one : (n a b c d e f i : ℕ) → i < 6
-      → says kind (NameOne n a b c d e f) (characterPlace kind (nameOf kind n) 1 + i) ≡ tellsOf (a ∷ b ∷ c ∷ d ∷ e ∷ f ∷ []) i
-  pub part-two : (n a b c d e f i : ℕ) → i < 6
-      → says kind (NameTwo n a b c d e f) (characterPlace kind (nameOf kind n) 7 + i) ≡ tellsOf (a ∷ b ∷ c ∷ d ∷ e ∷ f ∷ []) i
-  pub part-three : (n a b c d i : ℕ) → i < 4
-      → says kind (NameThree n a b c d) (characterPlace kind (nameOf kind n) 13 + i) ≡ tellsOf (a ∷ b ∷ c ∷ d ∷ []) i
-  -- F5 to F9 name the LEDs with a one; F4 and EB name all eight
-  pub leds-some : (g : Glow) (mask i : ℕ) → i < 8 → says kind (Leds g mask) (ledPlace 1 + i) ≡ cond (eqb (bit mask i) 1) (tells (glowNumber g)) silent
-  pub leds-all : (on slow fast i : ℕ) → i < 8 → says kind (LedsAll on slow fast) (ledPlace 1 + i) ≡ tellsLed on slow fast i
-  pub leds-status : (x on slow fast i : ℕ) → i < 8 → says kind (InputStatus x on slow fast) (ledPlace 1 + i) ≡ tellsLed on slow fast i
-  -- EC tells the blind's state; 04, 05 and 06 make it unknown
-  pub blind-told : (n a state c d e f : ℕ) → says kind (BlindStatus n a state c d e f) (blindPlace 1) ≡ tells state
-  pub blind-stopped : (n : ℕ) → says kind (BlindStop n) (blindPlace 1) ≡ asks
-  pub blind-up : (n : ℕ) (t : Time) → says kind (BlindUp n t) (blindPlace 1) ≡ asks
-  pub blind-down : (n : ℕ) (t : Time) → says kind (BlindDown n t) (blindPlace 1) ≡ asks
-  -- FF tells the build: its last two bytes
-  pub year-long : (k a b c year week : ℕ) → says kind (TypeLong k a b c year week) yearPlace ≡ tells year
-  pub week-long : (k a b c year week : ℕ) → says kind (TypeLong k a b c year week) weekPlace ≡ tells week
-  pub year-short : (k a year week : ℕ) → says kind (TypeShort k a year week) yearPlace ≡ tells year
-  pub week-short : (k a year week : ℕ) → says kind (TypeShort k a year week) weekPlace ≡ tells week
-  -- no message says anything of a place outside its run; every other command has a run of no place
-  pub elsewhere : (m : Command) (p : ℕ) → Outside (runIn (meaningOf kind m)) p → says kind m p ≡ silent
+-- ---- of which places
+-- of the i-th of the n places from `start` on, counted from 0, what `of i` is; of every other place nothing
+pub record Just (start n : ℕ) (of : ℕ → Saying) (r : Run) : Type 0 where
+  pub there : (i : ℕ) → i < n → said r (start + i) ≡ of i
+  pub elsewhere : (p : ℕ) → (p < start) ⊎ (start + n ≤ p) → said r p ≡ silent
 
+-- of no place anything
+abbrev pub Nothing : Run → Type 0
+Nothing r = (p : ℕ) → said r p ≡ silent
+
+-- the build, and of every other place nothing
+pub record Build (year week : ℕ) (r : Run) : Type 0 where
+  pub year-told : said r yearPlace ≡ tells year
+  pub week-told : said r weekPlace ≡ tells week
+  pub elsewhere : (p : ℕ) → p ≢ yearPlace → p ≢ weekPlace → said r p ≡ silent
+
+-- ---- by a message that enters no module; by the entry of the type k
+abbrev pub Says : (Run → Type 0) → Meaning → Type 0
+Says run (refuses n) = ⊥
+Says run (names r) = run r
+Says run (enters k r) = ⊥
+
+abbrev pub Enters : ℕ → (Run → Type 0) → Meaning → Type 0
+Enters k run (refuses n) = ⊥
+Enters k run (names r) = ⊥
+Enters k run (enters t r) = (t ≡ k) × run r
+
+-- no entry, and just these places
+abbrev pub Names : ℕ → ℕ → (ℕ → Saying) → Meaning → Type 0
+Names start n of = Says (Just start n of)
+
+-- ---- the number of the name that a channel's byte stands for: of H'0A' by its bit; of H'03' the blind, the up button, the down button
+pub record NamesNumbered : Type 0 where
+  pub channels : map (nameOf 0x0A) (0x01 ∷ 0x02 ∷ 0x04 ∷ 0x08 ∷ 0x10 ∷ 0x20 ∷ 0x40 ∷ 0x80 ∷ []) ≡ 1 ∷ 2 ∷ 3 ∷ 4 ∷ 5 ∷ 6 ∷ 7 ∷ 8 ∷ []
+  pub blind-up-down : map (nameOf 0x03) (0x03 ∷ 0x10 ∷ 0x20 ∷ []) ≡ 1 ∷ 2 ∷ 3 ∷ []
+
+-- ---- the table: what each command says at a module of the type `kind`
+unfoldable pub Spoken : ℕ → Command → Meaning → Type 0
+-- FE tells one cell and CC four; FC and CA ask for a change of them
+Spoken kind (CellTold l v) = Names (cellPlace kind (l .0)) 1 (tellsOf (v ∷ []))
+Spoken kind (BlockTold l a b c d) = Names (cellPlace kind (l .0)) 4 (tellsOf (a ∷ b ∷ c ∷ d ∷ []))
+Spoken kind (CellSet l v) = Names (cellPlace kind (l .0)) 1 asksAll
+Spoken kind (BlockSet l a b c d) = Names (cellPlace kind (l .0)) 4 asksAll
+-- F0, F1, F2 tell characters 1 to 6, 7 to 12, 13 to 16 of the name
+Spoken kind (NameOne n a b c d e f) = Names (characterPlace kind (nameOf kind n) 1) 6 (tellsOf (a ∷ b ∷ c ∷ d ∷ e ∷ f ∷ []))
+Spoken kind (NameTwo n a b c d e f) = Names (characterPlace kind (nameOf kind n) 7) 6 (tellsOf (a ∷ b ∷ c ∷ d ∷ e ∷ f ∷ []))
+Spoken kind (NameThree n a b c d) = Names (characterPlace kind (nameOf kind n) 13) 4 (tellsOf (a ∷ b ∷ c ∷ d ∷ []))
+-- F5 to F9 name the LEDs with a one; F4 and EB name all eight
+Spoken kind (Leds g mask) = Names (ledPlace 1) 8 (tellsIf g mask)
+Spoken kind (LedsAll on slow fast) = Names (ledPlace 1) 8 (tellsLed on slow fast)
+Spoken kind (InputStatus x on slow fast) = Names (ledPlace 1) 8 (tellsLed on slow fast)
+-- EC tells the blind's state; 04, 05 and 06 make it unknown
+Spoken kind (BlindStatus n a state c d e f) = Names (blindPlace 1) 1 (tellsOf (state ∷ []))
+Spoken kind (BlindStop n) = Names (blindPlace 1) 1 asksAll
+Spoken kind (BlindUp n t) = Names (blindPlace 1) 1 asksAll
+Spoken kind (BlindDown n t) = Names (blindPlace 1) 1 asksAll
+-- FF enters the type inside it and tells the build: its last two bytes
+Spoken kind (TypeLong k a b c year week) = Enters k (Build year week)
+Spoken kind (TypeShort k a year week) = Enters k (Build year week)
+-- 00, FD, C9, CB, DA, D9, EF and FA name no place
+Spoken kind (Buttons a b c) = Says Nothing
+Spoken kind (CellAsked l) = Says Nothing
+Spoken kind (BlockAsked l) = Says Nothing
+Spoken kind DumpAsked = Says Nothing
+Spoken kind (Errors a b c) = Says Nothing
+Spoken kind ErrorsAsked = Says Nothing
+Spoken kind (NameAsked n) = Says Nothing
+Spoken kind (StatusAsked n) = Says Nothing
+
+-- nor does the type request
+abbrev pub SpokenBy : ℕ → Message → Meaning → Type 0
+SpokenBy kind TypeRequest = Says Nothing
+SpokenBy kind (Tells m) = Spoken kind m
+
+-- every message means what the table says
 abbrev pub SpeaksOf : Type 0
-SpeaksOf = (kind : ℕ) → Speaks kind
+SpeaksOf = (kind : ℕ) (m : Message) → SpokenBy kind m (meant kind m)

@@ -6,12 +6,19 @@ use mathlib.Core.List.{List, [], _∷_}
 use mathlib.Core.Option.{Option, none, some}
 use lib.Dec.{eqb, ltb}
 use Rattle.laws.specs.Refusals.{noRoom, nothingKept}
+use Rattle.frame.specs.Identifiers.{addressOf}
 use Rattle.frame.specs.Types.{noType}
 use Rattle.frame.specs.Reading.{reading}
 use Rattle.places.specs.declared.answers.Outcome.{Outcome}
 use Rattle.places.specs.declared.answers.Outcome.the-variants as outcome
-use Rattle.places.specs.Limits.{room, depth, busAddress}
-use Rattle.places.specs.Runs.{Run, Saying, silent, asks, tells, said, Meaning, refuses, names, enters, readAs}
+use Rattle.places.specs.Runs.{Saying, silent, asks, tells, said, Meaning, refuses, names, enters, readAs}
+
+-- the most modules that are listed, and the most steps back that are kept
+abbrev pub mostListed : ℕ
+mostListed = 16
+
+abbrev pub mostKept : ℕ
+mostKept = 16
 
 -- A frame as it is heard.
 pub record Frame : Type 0 where
@@ -21,7 +28,7 @@ pub record Frame : Type 0 where
 
 -- the address that it is about
 abbrev pub address : Frame → ℕ
-address f = busAddress (f .identifier)
+address f = addressOf (f .identifier) .0
 
 -- the type handed to the reader: 0 where none is known
 abbrev pub handed : Option ℕ → ℕ
@@ -93,7 +100,7 @@ pub data Judgement : Type 0 where
 unfoldable pub judged : Option ℕ → ℕ → Meaning → Judgement
 judged t n (refuses c) = refused c
 judged t n (names r) = accepted
-judged none n (enters k r) = cond (ltb n room) accepted (refused noRoom)
+judged none n (enters k r) = cond (ltb n mostListed) accepted (refused noRoom)
 judged (some t) n (enters k r) = exchanged
 
 unfoldable pub judgement : List Frame → Frame → Judgement
@@ -123,10 +130,10 @@ unfoldable pub struck : ℕ → List Frame → List Frame
 struck zero S = S
 struck (suc k) S = butLatest S
 
--- An accepted frame adds 1 up to the depth; an exchange sets the count to 0.
+-- An accepted frame adds 1 up to the most that are kept; an exchange sets the count to 0.
 unfoldable pub counted : Judgement → ℕ → ℕ
 counted (refused n) k = k
-counted accepted k = min depth (suc k)
+counted accepted k = min mostKept (suc k)
 counted exchanged k = 0
 
 unfoldable mutual

@@ -3,13 +3,16 @@ use libc::STDERR_FILENO;
 use libc::STDIN_FILENO;
 use libc::STDOUT_FILENO;
 use places::Outcome;
+use recording::Put;
 use replay::LISTING_ROOM;
+use replay::Part;
 use replay::Stream;
 
-// What was heard of the input, and whether reading it failed before its end.
-struct Input {
-    stream: Stream,
-    failed: bool,
+// What became of the input: what was heard of it, or why it was not heard to its end.
+enum Input {
+    Heard(Stream),
+    NotRead,
+    NoRoom,
 }
 
 // Reads more of the input after the window's first `left` bytes, and answers as `read` does: how many bytes came, 0 at the end,
@@ -27,47 +30,60 @@ fn hear_input(picture: &mut [u8], window: &mut [u8]) -> Input {
     let mut stream = replay::begin();
     let mut turns = u64::MAX;
     let mut going = true;
-    let mut failed = false;
+    let mut read = true;
+    let mut room = true;
     while turns > 0 && going {
         let got = read_more(window, stream.left);
         let n = io::count(got, window);
-        stream = replay::hear_part(picture, window, stream, n);
-        failed = got < 0;
-        going = n != 0 && stream.refusal != laws::BAD_NUMBER;
+        read = got >= 0;
+        match replay::hear_part(picture, window, stream, n) {
+            Part::Heard(heard) => {
+                stream = heard;
+                going = n != 0 && heard.refusal != laws::BAD_NUMBER;
+            }
+            Part::Refused(_) => {
+                room = false;
+                going = false;
+            }
+        }
         turns -= 1;
     }
-    Input { stream, failed }
+    if !read {
+        return Input::NotRead;
+    }
+    if !room {
+        return Input::NoRoom;
+    }
+    Input::Heard(stream)
 }
 
-// Lists what was heard, and tells where the listing could not be written to its end.
+fn tell(what: &[u8]) {
+    io::write_all(STDERR_FILENO, what);
+}
+
+// Lists what was heard, and tells where the listing could not be made, or not written to its end.
 fn put_out(picture: &[u8], stream: Stream) {
     let mut out = [0u8; LISTING_ROOM];
-    let n = replay::put_listing(picture, &mut out, stream);
-    if n <= LISTING_ROOM {
-        if !io::write_all(STDOUT_FILENO, &out[0..n]) {
-            io::write_all(
-                STDERR_FILENO,
-                b"listing: the listing could not be written\n",
-            );
-        }
+    let Put::Wrote(n) = replay::put_listing(picture, &mut out, stream) else {
+        tell(b"listing: there is no room for the listing\n");
+        return;
+    };
+    if !io::write_all(STDOUT_FILENO, &out[0..n]) {
+        tell(b"listing: the listing could not be written\n");
     }
 }
 
-// A recording that could not be read to its end is told, and never shown as a short listing.
+// A recording that could not be read and heard to its end is told, and never shown as a short listing.
 fn main() {
     let mut picture = [0u8; picture::SIZE];
     let mut window = io::large_buffer();
     let Outcome::Done = picture::fresh(&mut picture) else {
-        io::write_all(STDERR_FILENO, b"listing: there is no room for a picture\n");
+        tell(b"listing: there is no room for a picture\n");
         return;
     };
-    let input = hear_input(&mut picture, &mut window);
-    if input.failed {
-        io::write_all(
-            STDERR_FILENO,
-            b"listing: the recording could not be read to its end\n",
-        );
-        return;
+    match hear_input(&mut picture, &mut window) {
+        Input::Heard(stream) => put_out(&picture, stream),
+        Input::NotRead => tell(b"listing: the recording could not be read to its end\n"),
+        Input::NoRoom => tell(b"listing: there is no room for the recording\n"),
     }
-    put_out(&picture, input.stream);
 }

@@ -2,6 +2,7 @@
 --     heard-refused      a number that is not 0 is the refusal's, and the bytes stay
 --     heard-request      number 0 and a remote frame: no place is named
 --     heard-command      number 0 and a frame with data: what its command means is heard
+--     entry-bytes, entry-answer    and of a type frame, what its entry gives
 --     fits-heard         and its run lies in a record
 --     row-heard          and its length is its row's
 --     type-fits          a type frame that is heard has its type's length
@@ -20,23 +21,25 @@ use Rattle.laws.proofs.Testing.{not-both}
 use Rattle.frame.specs.Identifiers.{addressOf}
 use Rattle.frame.specs.Types.{noType, rowFor, isListed}
 use Rattle.frame.specs.Bytes.{byte, dataOf}
-use Rattle.frame.specs.Messages.{typeCommand}
+use Rattle.frame.specs.Messages.{typeCommand, typeFrame}
 use Rattle.frame.specs.Reading.{reading, readingNumber}
+use Rattle.frame.specs.declared.identifiers.Address.{Address}
 use Rattle.frame.specs.declared.messages.Message.the-variants.{Tells}
-use Rattle.frame.specs.declared.reader.Reading.the-variants.{Read}
+use Rattle.frame.specs.declared.messages.Reading.the-variants.{Read}
 use Rattle.frame.proofs.Numbers.{refused-as, accepted-as}
 use Rattle.frame.proofs.Listed.{listed-module, type-sized}
+use Rattle.places.specs.declared.answers.Outcome.{Outcome}
 use Rattle.places.specs.Limits.{room, busAddress}
 use Rattle.places.specs.Places.{places}
 use Rattle.places.specs.Runs.{noRun, names, meaningOf, meant, readAs, commandOf}
 use Rattle.places.specs.Fitting.{endOf, FitsAs}
-use Rattle.places.specs.Result.{refusing, done}
+use Rattle.places.specs.Result.{Result, refusing, done}
 use Rattle.places.specs.Layout.{slotAt, recordAt}
 use Rattle.places.specs.Head.{modulesOf, noSlot, believed, slotOf, kindIn}
 use Rattle.places.proofs.Fitting.{Accepted, read-accepted, runs-fit}
 use Rattle.picture.specs.Hearing.{naming, hearingAs, hearingAt}
 use Rattle.picture.specs.Commands.{namedBy}
-use Rattle.picture.proofs.Meant.{NotType, names-run}
+use Rattle.picture.proofs.Meant.{NotType, names-run, type-by}
 
 -- the type handed to the reader is the slot's, as a wider number
 module _ (b : List ℕ) (slot identifier remote : ℕ) (s : List ℕ) {kind handed n : ℕ} (k : kind ≡ kindIn b slot) (w : handed ≡ kind)
@@ -85,6 +88,22 @@ module _ (b : List ℕ) (slot identifier remote : ℕ) (s : List ℕ) {kind hand
       let listed : isListed (byte 2 s) typeCommand ≡ true = rw (t) at (a .listed) in
       let two = type-sized (byte 2 s) typeCommand listed refl in
       (omega arith, sized)
+
+-- a type frame is heard as its entry is: the bytes, and the answer
+module _ (b : List ℕ) (slot identifier remote : ℕ) (s : List ℕ) (kind handed n command : ℕ) (a : Address) (k : kind ≡ kindIn b slot) (w : handed ≡ kind)
+    (e : n ≡ readingNumber (reading handed identifier remote s)) (z : n ≡ 0) (q : remote ≡ 1 → ⊥) (t : command ≡ byte 1 s) (f : command ≡ typeCommand)
+    (here : a ≡ addressOf identifier) where
+  abbrev entry : Result
+  entry = hearingAs b slot (a .0) kind (meaningOf kind (typeFrame s))
+
+  heard-entry : hearingAt b slot identifier remote s ≡ entry
+  heard-entry = rw (heard-command b slot identifier remote s k w e z q, type-by s t f, here)
+
+  pub entry-bytes : (x : List ℕ) → x ≡ entry .buffer → x ≡ hearingAt b slot identifier remote s .buffer
+  entry-bytes x h = rw heard-entry h
+
+  pub entry-answer : (o : Outcome) → o ≡ entry .outcome → o ≡ hearingAt b slot identifier remote s .outcome
+  entry-answer o h = rw heard-entry h
 
 pub newcomer-types : (b : List ℕ) (slot identifier remote : ℕ) (s : List ℕ) {handed n : ℕ} → noType ≡ kindIn b slot → handed ≡ noType → n ≡ readingNumber (reading handed identifier remote s) → n ≡ 0 → (remote ≡ 1 → ⊥) → byte 1 s ≡ typeCommand
 newcomer-types b slot identifier remote s k w e z q = go (eqb (byte 1 s) typeCommand) (eqb-true (byte 1 s) typeCommand) (accepted b slot identifier remote s k w e z q .listed)

@@ -14,18 +14,18 @@ use lib.Dec.{eqb, leb}
 use lib.ListN.{getD, length}
 use borrow.Author.Tests.{eqb-true, eqb-false, eq-eqb, ne-eqb, leb-true, lt-ltb}
 use Rattle.laws.specs.Tests.{among}
-use Rattle.laws.proofs.Testing.{or-right}
-use Rattle.frame.specs.Types.{rowFor, isListed}
+use Rattle.laws.proofs.Testing.{_&_, or-right}
+use Rattle.frame.specs.Types.{longType, shortType, rowFor, isListed}
 use Rattle.frame.specs.Bytes.{byte}
-use Rattle.frame.specs.Messages.{longType, typeCommand, typeFrame, readers, decode}
-use Rattle.frame.proofs.Listed.{everywhere, of-listed}
+use Rattle.frame.specs.Messages.{typeCommand, typeFrame, readers, decode}
+use Rattle.frame.proofs.Listed.{everywhere, of-listed, type-shaped}
 use Rattle.frame.specs.declared.messages.Command.{Command}
 use Rattle.frame.specs.declared.messages.Command.the-variants.{TypeLong, TypeShort}
 use Rattle.places.specs.Limits.{room}
 use Rattle.places.specs.Places.{places}
 use Rattle.places.specs.Runs.{Run, noRun, names, enters, buildTold, meaningOf, runIn, commandOf}
 use Rattle.places.specs.Fitting.{endOf}
-use Rattle.places.proofs.Readers.{_&_, AllRead, read-as}
+use Rattle.places.proofs.Readers.{AllRead, read-as}
 use Rattle.picture.specs.Hearing.{toldBytes, sameBytes, isEmpty, naming}
 use Rattle.picture.specs.Commands.{namedBy, cellCommands, nameCommands, ledCommands, blindCommands}
 
@@ -124,11 +124,10 @@ pub type-by : (s : List ℕ) {c : ℕ} → c ≡ byte 1 s → c ≡ typeCommand 
 type-by s e q = rw (← e, q)
 
 -- a type frame has seven bytes or five
-two-shapes : (kind : ℕ) → isListed kind typeCommand ≡ true → (rowFor kind typeCommand .0 ≡ longType → ⊥) → rowFor kind typeCommand .0 ≡ 5
+two-shapes : (kind : ℕ) → isListed kind typeCommand ≡ true → (rowFor kind typeCommand .0 ≡ longType → ⊥) → rowFor kind typeCommand .0 ≡ shortType
 two-shapes kind h n =
-    eqb-true (rowFor kind typeCommand .0) 5
-    (or-right (eqb (rowFor kind typeCommand .0) longType) (eqb (rowFor kind typeCommand .0) 5)
-    (or-right (not (eqb typeCommand typeCommand)) _ (of-listed (λ k c r. not (eqb c typeCommand) || (eqb (r .0) longType || eqb (r .0) 5)) refl kind typeCommand h) refl)
+    eqb-true (rowFor kind typeCommand .0) shortType
+    (or-right (eqb (rowFor kind typeCommand .0) longType) (eqb (rowFor kind typeCommand .0) shortType) (type-shaped kind h)
     (ne-eqb (rowFor kind typeCommand .0) longType n))
 
 pub type-told :

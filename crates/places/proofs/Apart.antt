@@ -1,11 +1,13 @@
 -- Different things of a module have different places: a place says whose it is. Assumes nothing.
-use Prim.Native.Nat.{ℕ, _+_, _-_, _/_, _%_}
+use Prim.Native.Nat.{ℕ, _+_, _-_, _/_, _%_, _≤_}
 use native.Mathlib.Omega.{arith}
 use mathlib.Core.Path.{_≡_, refl, sym, ap, _∙_}
-use mathlib.Core.Bool.{cond}
+use mathlib.Core.Bool.{true, cond}
 use lib.Dec.{eqb, ltb}
 use borrow.Author.Tests.{ne-eqb, lt-ltb, le-ltb}
 use Rattle.places.specs.Apart.{Thing, year, week, led, blind, character, cell, Has, placeOf, Apart, Inside}
+use Rattle.places.specs.Places.{within}
+use Rattle.places.proofs.CodePlaces.{within-low, within-high}
 use Rattle.places.proofs.Fitting.{extents-small}
 
 -- whose place it is: the build, the LEDs, the blinds, the names, the cells
@@ -17,28 +19,35 @@ thingAt p =
     (cond (ltb p 16) (blind (p - 9))
     (cond (ltb p 256) (character ((p - 16) / 16 + 1) ((p - 16) % 16 + 1)) (cell (p - 256))))))
 
+bounds : (n most : ℕ) → within n most ≡ true → (1 ≤ n) × (n ≤ most)
+bounds n most h = (within-low n most h, within-high n most h)
+
 found : (kind : ℕ) (a : Thing) → Has kind a → thingAt (placeOf kind a) ≡ a
 found kind year h = refl
 found kind week h = refl
 found kind (led n) h =
     let p = placeOf kind (led n) in
     let small = extents-small kind .leds-small in
-    let l = h .0 in
-    let m = h .1 in
+    let b = bounds n _ h in
+    let l = b .0 in
+    let m = b .1 in
     rw (ne-eqb p 0 (λ e. omega arith), ne-eqb p 1 (λ e. omega arith), lt-ltb p 10 (omega arith)) (ap led (omega arith))
 found kind (blind n) h =
     let p = placeOf kind (blind n) in
     let small = extents-small kind .blinds-small in
-    let l = h .0 in
-    let m = h .1 in
+    let b = bounds n _ h in
+    let l = b .0 in
+    let m = b .1 in
     rw (ne-eqb p 0 (λ e. omega arith), ne-eqb p 1 (λ e. omega arith), le-ltb p 10 (omega arith), lt-ltb p 16 (omega arith)) (ap blind (omega arith))
 found kind (character name i) h =
     let p = placeOf kind (character name i) in
     let small = extents-small kind .names-small in
-    let l = h .0 .0 in
-    let m = h .0 .1 in
-    let f = h .1 .0 in
-    let t = h .1 .1 in
+    let b = bounds name _ (h .0) in
+    let d = bounds i _ (h .1) in
+    let l = b .0 in
+    let m = b .1 in
+    let f = d .0 in
+    let t = d .1 in
     let n : (p - 16) / 16 + 1 ≡ name = omega arith in
     let j : (p - 16) % 16 + 1 ≡ i = omega arith in
     rw (ne-eqb p 0 (λ e. omega arith), ne-eqb p 1 (λ e. omega arith), le-ltb p 10 (omega arith), le-ltb p 16 (omega arith), lt-ltb p 256 (omega arith))
@@ -54,7 +63,10 @@ apart kind a b ha hb e = sym (found kind a ha) ∙ ap thingAt e ∙ found kind b
 pub inside : Inside
 inside kind year h = omega arith
 inside kind week h = omega arith
-inside kind (led n) h = omega (arith, h .0, h .1, extents-small kind .leds-small)
-inside kind (blind n) h = omega (arith, h .0, h .1, extents-small kind .blinds-small)
-inside kind (character name i) h = omega (arith, h .0 .0, h .0 .1, h .1 .0, h .1 .1, extents-small kind .names-small)
+inside kind (led n) h = let b = bounds n _ h in omega (arith, b .0, b .1, extents-small kind .leds-small)
+inside kind (blind n) h = let b = bounds n _ h in omega (arith, b .0, b .1, extents-small kind .blinds-small)
+inside kind (character name i) h =
+    let b = bounds name _ (h .0) in
+    let d = bounds i _ (h .1) in
+    omega (arith, b .0, b .1, d .0, d .1, extents-small kind .names-small)
 inside kind (cell location) h = omega (arith, h, extents-small kind .cells-small)

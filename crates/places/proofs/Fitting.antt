@@ -11,11 +11,11 @@ use borrow.Author.Tests.{eqb-true, leb-true}
 use Rattle.laws.specs.Refusals.{wrongPriority}
 use Rattle.laws.specs.Tab.{tab}
 use Rattle.laws.specs.Tests.{among, unless}
-use Rattle.laws.proofs.Testing.{held, unrefused, or-right}
+use Rattle.laws.proofs.Testing.{_&_, held, unrefused, or-right}
 use Rattle.frame.specs.Identifiers.{priorityOf, addressOf, low}
-use Rattle.frame.specs.Types.{Line, types, noLine, lineOf, rowFor, isListed, cellsOf, ledsOf, blindsOf, channelsOf, lastCell, lastStart, extentOf, positionIn, nameOf}
+use Rattle.frame.specs.Types.{longType, Line, types, noLine, lineOf, rowFor, isListed, cellsOf, ledsOf, blindsOf, channelsOf, lastCell, lastStart, extentOf, positionIn, nameOf}
 use Rattle.frame.specs.Bytes.{byte, dataOf, bytesOf}
-use Rattle.frame.specs.Messages.{typeCommand, longType, locationIn, timeIn, readers, decode}
+use Rattle.frame.specs.Messages.{typeCommand, locationIn, timeIn, readers, decode}
 use Rattle.frame.specs.Fields.{locationFault, channelAllowed, isBlind, fault}
 use Rattle.frame.specs.Reading.{frameRefusal, ownType, commandRefusal, commandRead, requestRead, reading}
 use Rattle.frame.specs.declared.bytes.Data.{Data}
@@ -26,8 +26,8 @@ use Rattle.frame.specs.declared.messages.Command.{Command}
 use Rattle.frame.specs.declared.messages.Command.the-variants.{TypeLong, TypeShort}
 use Rattle.frame.specs.declared.messages.Message.{Message}
 use Rattle.frame.specs.declared.messages.Message.the-variants.{TypeRequest, Tells}
-use Rattle.frame.specs.declared.reader.Reading.{Reading}
-use Rattle.frame.specs.declared.reader.Reading.the-variants.{Read, Refused}
+use Rattle.frame.specs.declared.messages.Reading.{Reading}
+use Rattle.frame.specs.declared.messages.Reading.the-variants.{Read, Refused}
 use Rattle.laws.proofs.Keys.{every}
 use Rattle.frame.proofs.Judged.{command-held}
 use Rattle.frame.proofs.Listed.{of-line, of-listed}
@@ -35,7 +35,7 @@ use Rattle.places.specs.Limits.{mostPlaces}
 use Rattle.places.specs.Places.{places, ledPlace, blindPlace, characterPlace, cellPlace}
 use Rattle.places.specs.Runs.{Run, noRun, telling, asking, buildTold, characters, someLeds, allLeds, Meaning, refuses, names, enters, meaningOf, meant, readAs}
 use Rattle.places.specs.Fitting.{endOf, Lies, in-build, in-leds, in-blinds, in-names, in-cells, LiesAs, RunsLie, FitsAs, RunsFit}
-use Rattle.places.proofs.Readers.{_&_, AllRead, read-as}
+use Rattle.places.proofs.Readers.{AllRead, read-as}
 
 -- ---- what is known of a message that was read
 refused-read : {n : ℕ} {a : Address} {m : Message} → Refused n ≡ Read a m → ⊥

@@ -11,11 +11,6 @@ use Rattle.frame.specs.Bytes.{byte}
 use Rattle.frame.specs.Messages.{Reader, readers, unlisted, decode}
 use Rattle.frame.specs.declared.messages.Command.{Command}
 
--- a line for each reader, in their order
-infixr 4 _&_
-pub _&_ : {A B : Type 0} → A → B → A × B
-a & b = (a, b)
-
 -- what the bytes d read as by each of them, where its command is such that Q
 abbrev pub AllRead : (ℕ → Type 0) → (Command → Type 0) → List ℕ → List Reader → Type 0
 AllRead Q P d [] = Unit {0}

@@ -1,8 +1,9 @@
 -- Different things of a module have different places, and each of them lies in its record. The proof is proofs/Apart.antt.
-use Prim.Native.Nat.{ℕ, _≤_, _<_}
+use Prim.Native.Nat.{ℕ, _<_}
 use mathlib.Core.Path.{_≡_}
+use mathlib.Core.Bool.{true}
 use Rattle.frame.specs.Types.{extentOf}
-use Rattle.places.specs.Places.{places, yearPlace, weekPlace, ledPlace, blindPlace, nameLength, characterPlace, cellPlace}
+use Rattle.places.specs.Places.{places, yearPlace, weekPlace, ledPlace, blindPlace, within, nameLength, characterPlace, cellPlace}
 
 -- a thing that is told or not heard
 pub data Thing : Type 0 where
@@ -13,17 +14,13 @@ pub data Thing : Type 0 where
   character : ℕ → ℕ → Thing
   cell : ℕ → Thing
 
--- n counts from 1 to most
-abbrev pub Counts : ℕ → ℕ → Type 0
-Counts n most = (1 ≤ n) × (n ≤ most)
-
 -- a module of the type has it
 abbrev pub Has : ℕ → Thing → Type 0
 Has kind year = Unit {0}
 Has kind week = Unit {0}
-Has kind (led n) = Counts n (extentOf kind .leds)
-Has kind (blind n) = Counts n (extentOf kind .blinds)
-Has kind (character name i) = Counts name (extentOf kind .names) × Counts i nameLength
+Has kind (led n) = within n (extentOf kind .leds) ≡ true
+Has kind (blind n) = within n (extentOf kind .blinds) ≡ true
+Has kind (character name i) = (within name (extentOf kind .names) ≡ true) × (within i nameLength ≡ true)
 Has kind (cell location) = location < extentOf kind .cells
 
 abbrev pub placeOf : ℕ → Thing → ℕ

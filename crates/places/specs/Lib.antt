@@ -4,6 +4,7 @@ pub mod Places
 pub mod Runs
 pub mod Fitting
 pub mod Apart
+pub mod Answers
 pub mod Result
 pub mod Layout
 pub mod Head

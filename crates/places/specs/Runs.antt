@@ -15,8 +15,8 @@ use Rattle.frame.specs.declared.messages.Command.{Command}
 use Rattle.frame.specs.declared.messages.Command.the-variants.{TypeLong, TypeShort, Buttons, CellTold, BlockTold, CellAsked, BlockAsked, DumpAsked, CellSet, BlockSet, Errors, ErrorsAsked, NameOne, NameTwo, NameThree, NameAsked, StatusAsked, InputStatus, LedsAll, Leds, BlindStatus, BlindStop, BlindUp, BlindDown}
 use Rattle.frame.specs.declared.messages.Message.{Message}
 use Rattle.frame.specs.declared.messages.Message.the-variants.{TypeRequest, Tells}
-use Rattle.frame.specs.declared.reader.Reading.{Reading}
-use Rattle.frame.specs.declared.reader.Reading.the-variants.{Read, Refused}
+use Rattle.frame.specs.declared.messages.Reading.{Reading}
+use Rattle.frame.specs.declared.messages.Reading.the-variants.{Read, Refused}
 use Rattle.places.specs.Places.{yearPlace, ledPlace, blindPlace, characterPlace, cellPlace}
 
 -- what is said of a place

@@ -9,8 +9,9 @@ pub enum Outcome {
 // The number that stands for a place which is not heard.
 pub const NOT_HEARD: u16 = 256;
 
-// To a question: a number, where 256 is not heard and a question that filled a buffer has 0, or the refusal's number.
+// To a question: a number, where a question that filled a buffer has 0; that the place is not heard; or the refusal's number.
 pub enum Answer {
     Value(u16),
+    NotHeard,
     Refused(u8),
 }

@@ -2,4 +2,5 @@ pub mod Replying
 pub mod Extents
 pub mod Filling
 pub mod Naming
+pub mod RowBytes
 pub mod Runs

@@ -11,37 +11,34 @@ use lib.ListN.{length, getD}
 use borrow.Author.Tests.{eqb-true, eqb-false, eq-eqb, ne-eqb, lt-ltb, le-ltb, lt-leb, le-leb}
 use Rattle.laws.specs.Limits.{AllBytes}
 use Rattle.laws.specs.Refusals.{typeNotKnown, noSuchPlace, tooShort, notWhole}
-use Rattle.places.specs.declared.answers.Answer.{Answer}
-use Rattle.places.specs.declared.answers.Answer.the-variants.{Value, Refused}
 use Rattle.places.specs.Limits.{room, notHeard}
 use Rattle.places.specs.Places.{Row, hasName, nameRow, nameLength}
 use Rattle.places.specs.Layout.{placeAt}
 use Rattle.places.specs.Head.{short, kindIn}
-use Rattle.questions.specs.Question.{Question, name-heard, whole-name, Reply, filled, refusing}
+use Rattle.questions.specs.Question.{name-heard, whole-name, Reply, filled, refusing}
 use Rattle.questions.specs.Fills.{filledTo, valueAt, heardAt, rowNumber}
-use Rattle.questions.specs.Replies.{slotAsked, characterHeard, characterValue, sumTo, heardReply, nameReply, replyAs, replyIn, reply, nameNumbers}
-use Rattle.questions.proofs.Replying.{both-of}
+use Rattle.questions.specs.Replies.{slotAsked, characterHeard, characterValue, sumTo, heardReply, nameReply, replyAs, replyIn, reply, nameRefusal, nameNumbers}
 use Rattle.questions.proofs.Filling.{filled-at, filled-ext, sum-ext, fill-short, fill-done, low-of}
 
 -- ---- the refusals that every question on a name has before its own, by their tests
 abbrev Asked : Bool → Bool → Bool → Reply → List ℕ → Reply
 Asked short listed named r out = cond short (refusing tooShort out) (cond listed (cond named r (refusing noSuchPlace out)) (refusing typeNotKnown out))
 
-never : {A : Type 0} (v k : ℕ) → Value v ≡ Refused k → A
-never v k e = let z : _≡_ {A = ℕ} 0 1 = cc in absurd (omega arith)
+-- and the number of the first that fails
+abbrev number : Bool → Bool → Bool → ℕ
+number short listed named = cond short tooShort (cond listed (cond named 0 noSuchPlace) typeNotKnown)
 
-asked-refused : (s t u : Bool) (l o out : List ℕ) (r : Reply) (k : ℕ) → Asked s t u (filled l) o .answer ≡ Refused k → refusing k out ≡ Asked s t u r out
-asked-refused true t u l o out r k e = cc
-asked-refused false true true l o out r k e = never 0 k e
-asked-refused false true false l o out r k e = cc
-asked-refused false false u l o out r k e = cc
+asked-refused : (s t u : Bool) (out : List ℕ) (r : Reply) (k : ℕ) → k ≡ number s t u → (k ≡ 0 → ⊥) → refusing k out ≡ Asked s t u r out
+asked-refused true t u out r k e n = rw e
+asked-refused false true true out r k e n = absurd (n e)
+asked-refused false true false out r k e n = rw e
+asked-refused false false u out r k e n = rw e
 
-asked-found : (s t u : Bool) (l o out : List ℕ) (r : Reply) (v : ℕ) → Asked s t u (filled l) o .answer ≡ Value v
-    → (Asked s t u (filled l) o .buffer ≡ l) × (r ≡ Asked s t u r out)
-asked-found true t u l o out r v e = never v tooShort (sym e)
-asked-found false true true l o out r v e = (refl, refl)
-asked-found false true false l o out r v e = never v noSuchPlace (sym e)
-asked-found false false u l o out r v e = never v typeNotKnown (sym e)
+asked-found : (s t u : Bool) (out : List ℕ) (r : Reply) → number s t u ≡ 0 → r ≡ Asked s t u r out
+asked-found true t u out r e = absurd (omega arith)
+asked-found false true true out r e = refl
+asked-found false true false out r e = absurd (omega arith)
+asked-found false false u out r e = absurd (omega arith)
 
 -- ---- what a number says of a character
 heard-of : (b : List ℕ) (o : ℕ) → AllBytes b → cond (ltb (valueAt b o) notHeard) 1 0 ≡ heardAt b o
@@ -55,43 +52,41 @@ heard-of b o bytes = go (eqb (getD b (o + 1) 0) 0) refl
 abbrev HeardIn : List ℕ → ℕ → ℕ
 HeardIn x i = cond (ltb (getD x i 0) notHeard) 1 0
 
-module _ (b : List ℕ) (a n : ℕ) (zeros out : List ℕ) {answer : Answer} {x : List ℕ} (numbers : (answer ≡ nameNumbers b a n zeros .answer) × (x ≡ nameNumbers b a n zeros .buffer)) where
+module _ (b : List ℕ) (a n : ℕ) (zeros out : List ℕ) {k : ℕ} {x : List ℕ} (numbers : (k ≡ nameRefusal b a n) × (x ≡ nameNumbers b a n zeros)) where
   abbrev S : ℕ
   S = slotAsked b a
 
   abbrev NameRow : Row
   NameRow = nameRow (kindIn b S) n
 
-  abbrev Numbers : List ℕ
-  Numbers = filledTo (rowNumber b S NameRow) zeros nameLength
+  module _ (e : k ≡ 0 → ⊥) where
+    pub heard-refused : refusing k out ≡ reply b a (name-heard n) out
+    unfolding nameRefusal reply replyIn replyAs
+    heard-refused = asked-refused (short b) (ltb S room) (hasName (kindIn b S) n) out (heardReply b S NameRow out) k (numbers .0) e
 
-  module _ (k : ℕ) (e : answer ≡ Refused k) where
-    refused : (q : Question) (r : Reply) → Asked (short b) (ltb S room) (hasName (kindIn b S) n) r out ≡ reply b a q out → (answer ≡ reply b a q out .answer) × (out ≡ reply b a q out .buffer)
+    pub name-refused : refusing k out ≡ reply b a (whole-name n) out
+    unfolding nameRefusal reply replyIn replyAs
+    name-refused = asked-refused (short b) (ltb S room) (hasName (kindIn b S) n) out (nameReply b S NameRow out) k (numbers .0) e
+
+  module _ (e : k ≡ 0) where
+    none : nameRefusal b a n ≡ 0
+    none = sym (numbers .0) ∙ e
+
+    row-found : x ≡ filledTo (rowNumber b S NameRow) zeros nameLength
     unfolding nameNumbers
-    refused q r is = rw e (both-of (asked-refused (short b) (ltb S room) (hasName (kindIn b S) n) Numbers zeros out r k (sym (numbers .0) ∙ e) ∙ is))
+    row-found = rw (eq-eqb (nameRefusal b a n) 0 none) at (numbers .1)
 
-    pub heard-refused : (answer ≡ reply b a (name-heard n) out .answer) × (out ≡ reply b a (name-heard n) out .buffer)
-    unfolding reply replyIn replyAs
-    heard-refused = refused (name-heard n) (heardReply b S NameRow out) refl
-
-    pub name-refused : (answer ≡ reply b a (whole-name n) out .answer) × (out ≡ reply b a (whole-name n) out .buffer)
-    unfolding reply replyIn replyAs
-    name-refused = refused (whole-name n) (nameReply b S NameRow out) refl
-
-  module _ (v : ℕ) (e : answer ≡ Value v) where
-    found : (r : Reply) → (x ≡ Numbers) × (r ≡ Asked (short b) (ltb S room) (hasName (kindIn b S) n) r out)
-    unfolding nameNumbers
-    found r =
-        let f = asked-found (short b) (ltb S room) (hasName (kindIn b S) n) Numbers zeros out r v (sym (numbers .0) ∙ e) in
-        (numbers .1 ∙ f .0, f .1)
+    found : (r : Reply) → r ≡ Asked (short b) (ltb S room) (hasName (kindIn b S) n) r out
+    unfolding nameRefusal
+    found r = asked-found (short b) (ltb S room) (hasName (kindIn b S) n) out r none
 
     heard-found : heardReply b S NameRow out ≡ reply b a (name-heard n) out
     unfolding reply replyIn replyAs
-    heard-found = found (heardReply b S NameRow out) .1
+    heard-found = found (heardReply b S NameRow out)
 
     name-found : nameReply b S NameRow out ≡ reply b a (whole-name n) out
     unfolding reply replyIn replyAs
-    name-found = found (nameReply b S NameRow out) .1
+    name-found = found (nameReply b S NameRow out)
 
     module _ (small : length out < nameLength) where
       pub heard-short : refusing tooShort out ≡ reply b a (name-heard n) out
@@ -104,7 +99,7 @@ module _ (b : List ℕ) (a n : ℕ) (zeros out : List ℕ) {answer : Answer} {x 
 
     module _ (bytes : AllBytes b) (l : nameLength ≤ length zeros) (large : nameLength ≤ length out) where
       number-in : (i : ℕ) → i < nameLength → getD x i 0 ≡ rowNumber b S NameRow i
-      number-in i h = rw (found (filled out) .0) (filled-at (rowNumber b S NameRow) zeros nameLength i l h)
+      number-in i h = rw row-found (filled-at (rowNumber b S NameRow) zeros nameLength i l h)
 
       heard-in : (i : ℕ) → i < nameLength → HeardIn x i ≡ characterHeard b S NameRow i
       heard-in i h = rw (number-in i h) (heard-of b (placeAt S (NameRow .start + i)) bytes)

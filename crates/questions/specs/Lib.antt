@@ -2,3 +2,4 @@
 pub mod Question
 pub mod Fills
 pub mod Replies
+pub mod Statements

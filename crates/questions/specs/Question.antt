@@ -24,12 +24,15 @@ pub record Reply : Type 0 where
   pub answer : Answer
   pub buffer : List ℕ
 
--- a number, a buffer that was filled (0), a refusal: the last two give back the buffer as it was but for what was filled
+-- any answer, a number, a buffer that was filled (0), a refusal: the buffer as it was but for what was filled
+abbrev pub answering : Answer → List ℕ → Reply
+answering answer out = record { answer = answer; buffer = out }
+
 abbrev pub value : ℕ → List ℕ → Reply
-value n out = record { answer = Value n; buffer = out }
+value n out = answering (Value n) out
 
 abbrev pub filled : List ℕ → Reply
 filled out = value 0 out
 
 abbrev pub refusing : ℕ → List ℕ → Reply
-refusing n out = record { answer = Refused n; buffer = out }
+refusing n out = answering (Refused n) out

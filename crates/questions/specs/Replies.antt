@@ -1,27 +1,31 @@
 -- The questions on the picture's bytes, for every list of bytes. Refusals in order: 13 for the picture, 5, 12, 13 for the buffer to fill, 14.
 -- Assumes nothing.
 use Prim.Native.Nat.{ℕ, zero, suc, _+_}
-use mathlib.Core.Bool.{cond}
+use mathlib.Core.Bool.{_&&_, cond}
 use mathlib.Core.List.{List}
 use lib.Dec.{eqb, ltb, leb}
 use lib.ListN.{length, getD}
 use Rattle.laws.specs.Refusals.{typeNotKnown, noSuchPlace, tooShort, notWhole}
 use Rattle.places.specs.declared.answers.Answer.{Answer}
-use Rattle.places.specs.declared.answers.Answer.the-variants.{Value, Refused}
+use Rattle.places.specs.declared.answers.Answer.the-variants.{Value, NotHeard, Refused}
 use Rattle.places.specs.Limits.{room, addresses}
 use Rattle.places.specs.Places.{places, yearPlace, weekPlace, cellAsked, ledAsked, blindAsked, hasName, nameLength, Row, nameRow, cellRow}
 use Rattle.places.specs.Layout.{placeAt}
 use Rattle.places.specs.Head.{short, keptOf, noSlot, slotOf, kindIn}
-use Rattle.questions.specs.Question.{Question, type-of, build-year, build-week, cell, led, blind, name-heard, whole-name, memory-row, memory-bytes, Reply, value, filled, refusing}
+use Rattle.questions.specs.Question.{Question, type-of, build-year, build-week, cell, led, blind, name-heard, whole-name, memory-row, memory-bytes, Reply, answering, value, filled, refusing}
 use Rattle.questions.specs.Fills.{filledTo, filling, valueAt, heardAt, rowNumber, numbersFill, bytesFill}
 
 -- the slot of any number asked for: an address above 255 has none
 unfoldable pub slotAsked : List ℕ → ℕ → ℕ
 slotAsked b a = cond (ltb a addresses) (slotOf b a) noSlot
 
--- a place of the module in slot s: its value, 256, or 12 for no place
+-- the two bytes of a place: 0 and 1 where it is not heard, else a number, low byte first
+abbrev pub answerAt : List ℕ → ℕ → Answer
+answerAt b o = cond (eqb (getD b o 0) 0 && eqb (getD b (o + 1) 0) 1) NotHeard (Value (valueAt b o))
+
+-- a place of the module in slot s: 12 for no place
 unfoldable pub placeReply : List ℕ → ℕ → ℕ → List ℕ → Reply
-placeReply b s p out = cond (ltb p places) (value (valueAt b (placeAt s p)) out) (refusing noSuchPlace out)
+placeReply b s p out = cond (ltb p places) (answering (answerAt b (placeAt s p)) out) (refusing noSuchPlace out)
 
 -- whether character i of a row is heard, and its value byte
 abbrev pub characterHeard : List ℕ → ℕ → Row → ℕ → ℕ
@@ -65,16 +69,14 @@ replyIn b s q out = cond (ltb s room) (replyAs b s (kindIn b s) q out) (refusing
 unfoldable pub reply : List ℕ → ℕ → Question → List ℕ → Reply
 reply b a q out = cond (short b) (refusing tooShort out) (replyIn b (slotAsked b a) q out)
 
--- what both questions on a name go by, and the refusals that they have before their own: the numbers of its characters
-unfoldable pub nameNumbers : List ℕ → ℕ → ℕ → List ℕ → Reply
+-- the refusals that both questions on a name have before their own, 0 for none; and what they go by: the numbers of its characters
+unfoldable pub nameRefusal : List ℕ → ℕ → ℕ → ℕ
+nameRefusal b a n =
+    cond (short b) tooShort (cond (ltb (slotAsked b a) room) (cond (hasName (kindIn b (slotAsked b a)) n) 0 noSuchPlace) typeNotKnown)
+
+unfoldable pub nameNumbers : List ℕ → ℕ → ℕ → List ℕ → List ℕ
 nameNumbers b a n out =
-    cond (short b)
-    (refusing tooShort out)
-    (cond (ltb (slotAsked b a) room)
-    (cond (hasName (kindIn b (slotAsked b a)) n)
-    (filled (filledTo (rowNumber b (slotAsked b a) (nameRow (kindIn b (slotAsked b a)) n)) out nameLength))
-    (refusing noSuchPlace out))
-    (refusing typeNotKnown out))
+    cond (eqb (nameRefusal b a n) 0) (filledTo (rowNumber b (slotAsked b a) (nameRow (kindIn b (slotAsked b a)) n)) out nameLength) out
 
 -- ---- questions on no address
 -- the count kept

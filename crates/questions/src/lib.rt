@@ -5,6 +5,8 @@ mod names;
 mod numbers;
 mod rows;
 
+pub use asking::AddressAsked;
+pub use asking::LocationAsked;
 pub use names::name;
 pub use names::name_heard;
 pub use numbers::blind;

@@ -1,4 +1,5 @@
 // Questions on the names of a module: which characters are heard, and the whole name. Both go by the name's row of numbers.
+use crate::asking::AddressAsked;
 use crate::asking::slot_asked;
 use crate::rows::fill_numbers;
 use laws::NO_SUCH_PLACE;
@@ -23,27 +24,27 @@ ghost use Rattle.places.specs.Limits.{notHeard};
 ghost use Rattle.places.specs.Places.{nameLength};
 ghost use Rattle.questions.specs.Question.{name-heard, whole-name};
 ghost use Rattle.questions.specs.Fills.{filledTo};
-ghost use Rattle.questions.specs.Replies.{sumTo, nameNumbers, reply};
+ghost use Rattle.questions.specs.Replies.{sumTo, nameRefusal, nameNumbers, reply};
 
-// The numbers of a name's characters, with the refusals that both questions have before their own.
-fn name_numbers(picture: &[u8], address: u32, name: u32, row: &mut [u16; 16]) -> Answer
-    ensures { λ r. ⌜ r ≡ nameNumbers (now (picture .entry)) address name (now (row .entry)) .answer ⌝ }
-    ensures { λ _. ⌜ now (row .exit) ≡ nameNumbers (now (picture .entry)) address name (now (row .entry)) .buffer ⌝ }
+// The numbers of a name's characters; or the number of a refusal that both questions have before their own.
+fn name_numbers(picture: &[u8], address: AddressAsked, name: u32, row: &mut [u16; 16]) -> u8
+    ensures { λ r. ⌜ r ≡ nameRefusal (now (picture .entry)) (address .0) name ⌝ }
+    ensures { λ _. ⌜ now (row .exit) ≡ nameNumbers (now (picture .entry)) (address .0) name (now (row .entry)) ⌝ }
 {
     if picture.len() < SIZE {
-        return Answer::Refused(TOO_SHORT);
+        return TOO_SHORT;
     }
     let slot = slot_asked(picture, address);
     if ROOM <= slot {
-        return Answer::Refused(TYPE_NOT_KNOWN);
+        return TYPE_NOT_KNOWN;
     }
     let kind = kind_in(picture, slot);
     if has_name(kind, name) {
         let at = place_at(slot, character_place(kind, name as u8, 1));
         fill_numbers(picture, at, NAME_LENGTH as usize, row);
-        return Answer::Value(0);
+        return 0;
     }
-    Answer::Refused(NO_SUCH_PLACE)
+    NO_SUCH_PLACE
 }
 
 fn heard(number: u16) -> u8
@@ -87,15 +88,15 @@ fn heard_count(row: [u16; 16]) -> u8
 }
 
 // For each of the sixteen characters of a name, 1 if it is heard.
-pub fn name_heard(picture: &[u8], address: u32, name: u32, out: &mut [u8]) -> Answer
-    ensures { λ r. ⌜ r ≡ reply (now (picture .entry)) address (name-heard name) (now (out .entry)) .answer ⌝ }
-    ensures { λ _. ⌜ now (out .exit) ≡ reply (now (picture .entry)) address (name-heard name) (now (out .entry)) .buffer ⌝ }
+pub fn name_heard(picture: &[u8], address: AddressAsked, name: u32, out: &mut [u8]) -> Answer
+    ensures { λ r. ⌜ r ≡ reply (now (picture .entry)) (address .0) (name-heard name) (now (out .entry)) .answer ⌝ }
+    ensures { λ _. ⌜ now (out .exit) ≡ reply (now (picture .entry)) (address .0) (name-heard name) (now (out .entry)) .buffer ⌝ }
 {
     let mut row: [u16; 16] = [0; 16];
-    let found = name_numbers(picture, address, name, &mut row);
-    let Answer::Value(_) = found else {
-        return found;
-    };
+    let refusal = name_numbers(picture, address, name, &mut row);
+    if refusal != 0 {
+        return Answer::Refused(refusal);
+    }
     if out.len() < NAME_LENGTH as usize {
         return Answer::Refused(TOO_SHORT);
     }
@@ -104,15 +105,15 @@ pub fn name_heard(picture: &[u8], address: u32, name: u32, out: &mut [u8]) -> An
 }
 
 // The name itself: 14 unless every character is heard.
-pub fn name(picture: &[u8], address: u32, name: u32, out: &mut [u8]) -> Answer
-    ensures { λ r. ⌜ r ≡ reply (now (picture .entry)) address (whole-name name) (now (out .entry)) .answer ⌝ }
-    ensures { λ _. ⌜ now (out .exit) ≡ reply (now (picture .entry)) address (whole-name name) (now (out .entry)) .buffer ⌝ }
+pub fn name(picture: &[u8], address: AddressAsked, name: u32, out: &mut [u8]) -> Answer
+    ensures { λ r. ⌜ r ≡ reply (now (picture .entry)) (address .0) (whole-name name) (now (out .entry)) .answer ⌝ }
+    ensures { λ _. ⌜ now (out .exit) ≡ reply (now (picture .entry)) (address .0) (whole-name name) (now (out .entry)) .buffer ⌝ }
 {
     let mut row: [u16; 16] = [0; 16];
-    let found = name_numbers(picture, address, name, &mut row);
-    let Answer::Value(_) = found else {
-        return found;
-    };
+    let refusal = name_numbers(picture, address, name, &mut row);
+    if refusal != 0 {
+        return Answer::Refused(refusal);
+    }
     if out.len() < NAME_LENGTH as usize {
         return Answer::Refused(TOO_SHORT);
     }

@@ -1,5 +1,7 @@
 // Questions whose answer is a number.
-use crate::asking::number_at;
+use crate::asking::AddressAsked;
+use crate::asking::LocationAsked;
+use crate::asking::answer_at;
 use crate::asking::slot_asked;
 use laws::NO_SUCH_PLACE;
 use laws::TOO_SHORT;
@@ -39,8 +41,8 @@ pub fn kept(picture: &[u8]) -> Answer
     Answer::Value(wide16(kept_of(picture)))
 }
 
-pub fn type_of(picture: &[u8], address: u32) -> Answer
-    ensures { λ r. ⌜ r ≡ reply (now (picture .entry)) address type-of [] .answer ⌝ }
+pub fn type_of(picture: &[u8], address: AddressAsked) -> Answer
+    ensures { λ r. ⌜ r ≡ reply (now (picture .entry)) (address .0) type-of [] .answer ⌝ }
 {
     if picture.len() < SIZE {
         return Answer::Refused(TOO_SHORT);
@@ -59,7 +61,7 @@ fn place_in(picture: &[u8], slot: u8, place: usize) -> Answer
     ensures { λ r. ⌜ r ≡ placeReply (now (picture .entry)) slot place [] .answer ⌝ }
 {
     if place < PLACES {
-        Answer::Value(number_at(picture, place_at(slot, place as u32)))
+        answer_at(picture, place_at(slot, place as u32))
     } else {
         Answer::Refused(NO_SUCH_PLACE)
     }
@@ -77,8 +79,8 @@ fn number_in(picture: &[u8], slot: u8, place: usize) -> Answer
     }
 }
 
-pub fn build_year(picture: &[u8], address: u32) -> Answer
-    ensures { λ r. ⌜ r ≡ reply (now (picture .entry)) address build-year [] .answer ⌝ }
+pub fn build_year(picture: &[u8], address: AddressAsked) -> Answer
+    ensures { λ r. ⌜ r ≡ reply (now (picture .entry)) (address .0) build-year [] .answer ⌝ }
 {
     if picture.len() < SIZE {
         return Answer::Refused(TOO_SHORT);
@@ -86,8 +88,8 @@ pub fn build_year(picture: &[u8], address: u32) -> Answer
     number_in(picture, slot_asked(picture, address), YEAR as usize)
 }
 
-pub fn build_week(picture: &[u8], address: u32) -> Answer
-    ensures { λ r. ⌜ r ≡ reply (now (picture .entry)) address build-week [] .answer ⌝ }
+pub fn build_week(picture: &[u8], address: AddressAsked) -> Answer
+    ensures { λ r. ⌜ r ≡ reply (now (picture .entry)) (address .0) build-week [] .answer ⌝ }
 {
     if picture.len() < SIZE {
         return Answer::Refused(TOO_SHORT);
@@ -95,20 +97,20 @@ pub fn build_week(picture: &[u8], address: u32) -> Answer
     number_in(picture, slot_asked(picture, address), WEEK as usize)
 }
 
-pub fn cell(picture: &[u8], address: u32, location: u32) -> Answer
-    ensures { λ r. ⌜ r ≡ reply (now (picture .entry)) address (cell location) [] .answer ⌝ }
+pub fn cell(picture: &[u8], address: AddressAsked, location: LocationAsked) -> Answer
+    ensures { λ r. ⌜ r ≡ reply (now (picture .entry)) (address .0) (cell (location .0)) [] .answer ⌝ }
 {
     if picture.len() < SIZE {
         return Answer::Refused(TOO_SHORT);
     }
     let slot = slot_asked(picture, address);
-    let place = cell_asked(kind_in(picture, slot), location);
+    let place = cell_asked(kind_in(picture, slot), location.0);
     number_in(picture, slot, place)
 }
 
 // LEDs count from 1.
-pub fn led(picture: &[u8], address: u32, number: u32) -> Answer
-    ensures { λ r. ⌜ r ≡ reply (now (picture .entry)) address (led number) [] .answer ⌝ }
+pub fn led(picture: &[u8], address: AddressAsked, number: u32) -> Answer
+    ensures { λ r. ⌜ r ≡ reply (now (picture .entry)) (address .0) (led number) [] .answer ⌝ }
 {
     if picture.len() < SIZE {
         return Answer::Refused(TOO_SHORT);
@@ -119,8 +121,8 @@ pub fn led(picture: &[u8], address: u32, number: u32) -> Answer
 }
 
 // So do blinds.
-pub fn blind(picture: &[u8], address: u32, number: u32) -> Answer
-    ensures { λ r. ⌜ r ≡ reply (now (picture .entry)) address (blind number) [] .answer ⌝ }
+pub fn blind(picture: &[u8], address: AddressAsked, number: u32) -> Answer
+    ensures { λ r. ⌜ r ≡ reply (now (picture .entry)) (address .0) (blind number) [] .answer ⌝ }
 {
     if picture.len() < SIZE {
         return Answer::Refused(TOO_SHORT);

@@ -1,4 +1,5 @@
 // Questions that fill a row: which addresses are listed, and the memory of a module. A row of places is filled as numbers, or as bytes.
+use crate::asking::AddressAsked;
 use crate::asking::number_at;
 use crate::asking::slot_asked;
 use crate::copying::fill_bytes;
@@ -105,9 +106,9 @@ fn memory_in(picture: &[u8], slot: u8, out: &mut [u16]) -> Answer
 }
 
 // One number for each cell: 0 to 255 as told, 256 for not heard. The entries beyond keep theirs.
-pub fn memory_row(picture: &[u8], address: u32, out: &mut [u16]) -> Answer
-    ensures { λ r. ⌜ r ≡ reply (now (picture .entry)) address memory-row (now (out .entry)) .answer ⌝ }
-    ensures { λ _. ⌜ now (out .exit) ≡ reply (now (picture .entry)) address memory-row (now (out .entry)) .buffer ⌝ }
+pub fn memory_row(picture: &[u8], address: AddressAsked, out: &mut [u16]) -> Answer
+    ensures { λ r. ⌜ r ≡ reply (now (picture .entry)) (address .0) memory-row (now (out .entry)) .answer ⌝ }
+    ensures { λ _. ⌜ now (out .exit) ≡ reply (now (picture .entry)) (address .0) memory-row (now (out .entry)) .buffer ⌝ }
 {
     if picture.len() < SIZE {
         return Answer::Refused(TOO_SHORT);
@@ -136,9 +137,9 @@ fn memory_bytes_in(picture: &[u8], slot: u8, out: &mut [u8]) -> Answer
 }
 
 // The same row as bytes, two for each number, low byte first.
-pub fn memory_bytes(picture: &[u8], address: u32, out: &mut [u8]) -> Answer
-    ensures { λ r. ⌜ r ≡ reply (now (picture .entry)) address memory-bytes (now (out .entry)) .answer ⌝ }
-    ensures { λ _. ⌜ now (out .exit) ≡ reply (now (picture .entry)) address memory-bytes (now (out .entry)) .buffer ⌝ }
+pub fn memory_bytes(picture: &[u8], address: AddressAsked, out: &mut [u8]) -> Answer
+    ensures { λ r. ⌜ r ≡ reply (now (picture .entry)) (address .0) memory-bytes (now (out .entry)) .answer ⌝ }
+    ensures { λ _. ⌜ now (out .exit) ≡ reply (now (picture .entry)) (address .0) memory-bytes (now (out .entry)) .buffer ⌝ }
 {
     if picture.len() < SIZE {
         return Answer::Refused(TOO_SHORT);

@@ -1,4 +1,5 @@
 -- Laws of reading a number.
+--     different                                           two constructors are not equal
 --     number-end, -none, -large, -last, -long, -joined    what is found at an offset of the input, case by case
 --     number-two                                          a number of two groups
 --     nothing-found                                       where the quick way found none
@@ -18,6 +19,10 @@ use Rattle.laws.proofs.Choices.{cond-elim}
 use Rattle.recording.specs.declared.numbers.Number.{Number}
 use Rattle.recording.specs.declared.numbers.Number.the-variants.{Value, Ends, Bad}
 use Rattle.recording.specs.Number.{readNumber, numberAt, joined}
+
+-- two constructors are not equal
+pub different : _≡_ {A = ℕ} 0 1 → ⊥
+different q = omega arith
 
 -- what the byte b at `at`, with bs after it, gives where one more group than `left` is allowed
 unfoldable pub step : ℕ → ℕ → ℕ → ℕ → List ℕ → Number
@@ -81,12 +86,13 @@ number-two left most at s b high two inside byte second more some last fits =
 pub nothing-found : {A : Type 0} {next : ℕ} → next ≡ 0 → 0 < next → A
 nothing-found e some = absurd (omega arith)
 
--- a value that was read at `at`, of at most `left` groups, is at most `most` and ends by `end`
+-- a value that was read at `at`, of at most `left` groups, is at most `most` and ends by `end`; a zero is one byte
 pub record Fits (left most at end v next : ℕ) : Type 0 where
   pub small : v ≤ most
   pub further : at < next
   pub inside : next ≤ end
   pub short : next ≤ at + left
+  pub zero-short : v ≡ 0 → next ≡ at + 1
 
 -- what was read of n bytes from `at` on fits; a bad byte lies among them; and where they end the number, they are fewer than its groups
 abbrev pub Within : ℕ → ℕ → ℕ → ℕ → Number → Type 0
@@ -99,7 +105,8 @@ joined-within left most at low n some h Ends w = omega arith
 joined-within left most at low n some h (Bad p) w = (omega arith, omega arith)
 joined-within left most at low n some h (Value v next) w =
     cond-elim (Within (suc left) most at (suc n)) (eqb v 0) (Bad (at + 1)) (Value (low + 128 * v) next) (λ _. (omega arith, omega arith))
-    (λ _. record { small = omega arith; further = omega arith; inside = omega arith; short = omega arith })
+    (λ z. let some-v : v ≡ 0 → ⊥ = eqb-false v 0 z in
+    record { small = omega arith; further = omega arith; inside = omega arith; short = omega arith; zero-short = λ e. absurd (some-v (omega arith)) })
 
 pub number-within : (left most at : ℕ) (bs : List ℕ) → Within left most at (length bs) (readNumber left most at bs)
 unfolding readNumber
@@ -112,7 +119,7 @@ number-within (suc left) most at (b ∷ bs) =
     let here : P (Bad at) = (omega arith, omega arith) in
     cond-elim P (ltb most b) _ _ (λ _. here)
     (λ e. let h : b ≤ most = ltb-false most b e in
-    cond-elim P (ltb b 128) _ _ (λ _. record { small = h; further = omega arith; inside = omega arith; short = omega arith })
+    cond-elim P (ltb b 128) _ _ (λ _. record { small = h; further = omega arith; inside = omega arith; short = omega arith; zero-short = λ _. refl })
     (λ _. cond-elim P (eqb left 0) _ _ (λ _. here)
     (λ z. joined-within left most at low (length bs) (eqb-false left 0 z) (omega arith) (readNumber left m (at + 1) bs) (number-within left m (at + 1) bs))))
 
@@ -126,7 +133,7 @@ module _ (left most at : ℕ) (s : List ℕ) where
   pub value-at : (r : Number) (v next : ℕ) → r ≡ numberAt s left most at → r ≡ Value v next → Fits left most at (length s) v next
   value-at r v next e f =
       let w : Fits left most at (at + (length s - at)) v next = within-at (Value v next) (sym f ∙ e) in
-      record { small = w .small; further = w .further; inside = omega arith; short = w .short }
+      record { small = w .small; further = w .further; inside = omega arith; short = w .short; zero-short = w .zero-short }
 
   pub bad-at : (p : ℕ) → Bad p ≡ numberAt s left most at → (at ≤ p) × (p < length s)
   bad-at p e =

@@ -229,7 +229,7 @@ together gap word count i r ds q w n =
     ∙ sym (append-assoc G (numberBytes wordGroups (2 * i + r) ++ (length ds ∷ ds)) q ∙ ap (λ (l : List ℕ). G ++ l) (append-assoc (numberBytes wordGroups (2 * i + r)) (length ds ∷ ds) q))
 
 same : (s : List ℕ) → AllBytes s → (at : ℕ) → Same s at (readRecord s at)
-same s by at = entry-elim (Same s at) s at (λ _. tt) (λ _. tt) (λ _ _ _. tt)
+same s by at = entry-elim (Same s at) s at (λ _. tt) (λ _. tt) (λ _ _ _ _. tt)
     (λ gap word count p₁ p₂ start e₁ e₂ e₃ _ _ f₃ l.
     let ds : List ℕ = take count (drop start s) in
     let q : List ℕ = drop (start + count) s in

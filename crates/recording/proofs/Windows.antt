@@ -21,7 +21,7 @@ use Rattle.recording.specs.Number.{readNumber, numberAt, joined}
 use Rattle.recording.specs.Record.{after, readData, readCount, readWord, readRecord, cutOffAt}
 use Rattle.recording.specs.Window.{settled, further}
 use Rattle.recording.specs.Statements.{WindowSettles, WindowMoves}
-use Rattle.recording.proofs.Reading.{value-at}
+use Rattle.recording.proofs.Reading.{different, value-at}
 
 -- a choice that is not `none` stays where what is not chosen changes, and where what is not `none` stays
 cond-stays : {A : Type 0} (none : A) (t : Bool) (a b b′ : A) → (cond t a b ≡ none → ⊥) → ((b ≡ none → ⊥) → b′ ≡ b) → cond t a b′ ≡ cond t a b
@@ -40,12 +40,8 @@ number-settles (suc left) most at (b ∷ bs) t f =
     (λ f₂. cond-stays Ends (eqb left 0) (Bad at) _ _ f₂
     (λ f₃. ap (joined at (b - 128)) (number-settles left m (at + 1) bs t (λ e. f₃ (ap (joined at (b - 128)) e))))))
 
--- two constructors are not equal
-different : _≡_ {A = ℕ} 0 1 → ⊥
-different q = omega arith
-
 module _ (s t : List ℕ) where
-  number-stays : (left most at : ℕ) (r : Number) → at ≤ length s → numberAt s left most at ≡ r → (r ≡ Ends → ⊥) → numberAt (s ++ t) left most at ≡ r
+  pub number-stays : (left most at : ℕ) (r : Number) → at ≤ length s → numberAt s left most at ≡ r → (r ≡ Ends → ⊥) → numberAt (s ++ t) left most at ≡ r
   number-stays left most at r inside e some =
       ap (readNumber left most at) (drop-append-le at s t inside) ∙ number-settles left most at (drop at s) t (λ n. some (sym e ∙ n)) ∙ e
 
@@ -97,7 +93,7 @@ moved k Ends = Ends
 moved k (Bad p) = Bad (k + p)
 
 -- a choice, further on
-cond-moves : {A : Type 0} (move : A → A) (t : Bool) (a b a′ b′ : A) → a′ ≡ move a → b′ ≡ move b → cond t a′ b′ ≡ move (cond t a b)
+pub cond-moves : {A B : Type 0} (move : A → B) (t : Bool) (a b : A) (a′ b′ : B) → a′ ≡ move a → b′ ≡ move b → cond t a′ b′ ≡ move (cond t a b)
 cond-moves move true a b a′ b′ f g = f
 cond-moves move false a b a′ b′ f g = g
 

@@ -12,7 +12,7 @@ use Rattle.laws.specs.Limits.{AllBytes}
 use Rattle.recording.specs.Limits.{longest}
 use Rattle.recording.specs.Record.{readRecord}
 use Rattle.recording.specs.Write.{inRange, recordBytes, putAnswer, putBytes}
-use Rattle.recording.specs.Window.{settled, further}
+use Rattle.recording.specs.Window.{settled, isRecord, further}
 use Rattle.recording.specs.Examples.{examples, Row}
 
 -- a record's numbers are in range, and it lies between `at` and the end of the n bytes
@@ -32,6 +32,23 @@ abbrev pub FaultsArePlaced : Type 0
 FaultsArePlaced =
     (s : List ℕ) (at refusal offset : ℕ) → readRecord s at ≡ Broken refusal offset
     → ((refusal ≡ cutOff) × (offset ≡ length s)) ⊎ ((refusal ≡ badNumber) × (at ≤ offset) × (offset < length s))
+
+-- 16 is certain from its byte on: the bytes up to that one give it there, whatever follows them, and the bytes before it give 15 at their end
+abbrev pub FaultIsCertain : Type 0
+FaultIsCertain =
+    (s : List ℕ) → AllBytes s → (at p : ℕ) → readRecord s at ≡ Broken 16 p
+    → ((t : List ℕ) → readRecord (take (p + 1) s ++ t) at ≡ Broken 16 p) × (readRecord (take p s) at ≡ Broken 15 p)
+
+-- 15 is given at the input's length, and more bytes could mend it
+abbrev pub CutCanBeMended : Type 0
+CutCanBeMended =
+    (s : List ℕ) (at n : ℕ) → readRecord s at ≡ Broken 15 n → (n ≡ length s) × ((t : List ℕ) × AllBytes t × (isRecord (readRecord (s ++ t) at) ≡ true))
+
+-- and wherever bytes of a record stand that more could make whole, 15 is given
+abbrev pub MendableIsCut : Type 0
+MendableIsCut =
+    (s t : List ℕ) (at : ℕ) → at < length s → isRecord (readRecord s at) ≡ false → isRecord (readRecord (s ++ t) at) ≡ true
+    → readRecord s at ≡ Broken 15 (length s)
 
 -- at `at` of the input s stands, up to `next`, the record of these numbers and data
 abbrev pub StandsAt : List ℕ → ℕ → ℕ → ℕ → ℕ → List ℕ → ℕ → Type 0

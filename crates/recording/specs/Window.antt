@@ -12,6 +12,12 @@ settled (Record gap identifier remote start len next) = true
 settled End = false
 settled (Broken refusal offset) = eqb refusal badNumber
 
+-- a whole record
+abbrev pub isRecord : Entry → Bool
+isRecord (Record gap identifier remote start len next) = true
+isRecord End = false
+isRecord (Broken refusal offset) = false
+
 -- the same, found k bytes further on
 abbrev pub further : ℕ → Entry → Entry
 further k (Record gap identifier remote start len next) = Record gap identifier remote (k + start) len (k + next)

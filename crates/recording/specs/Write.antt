@@ -6,6 +6,7 @@ use lib.Dec.{leb}
 use lib.ListN.{length, take, drop}
 use Rattle.recording.specs.declared.writes.Put.{Put}
 use Rattle.recording.specs.declared.writes.Put.the-variants.{Wrote, Refused}
+use Rattle.laws.specs.Answers.{Numbers, value, refusal}
 use Rattle.laws.specs.Refusals.{tooShort, badNumber}
 use Rattle.laws.specs.Limits.{mostIdentifier}
 use Rattle.recording.specs.Limits.{mostGap, gapGroups, wordGroups, mostRemote, mostCount}
@@ -28,6 +29,11 @@ unfoldable pub putAnswer : List ℕ → ℕ → ℕ → ℕ → ℕ → List ℕ
 putAnswer b at gap identifier remote ds =
     putCase (inRange gap identifier remote (length ds)) (length b) at (recordBytes gap identifier remote ds)
     (Refused badNumber) (Refused tooShort) (Wrote (length (recordBytes gap identifier remote ds)))
+
+-- in the paper's numbers
+abbrev pub putNumbers : Put → Numbers
+putNumbers (Wrote n) = value n
+putNumbers (Refused n) = refusal n
 
 -- `bytes` at the place `at` of the buffer b, and every other byte as it was
 abbrev pub placed : List ℕ → ℕ → List ℕ → List ℕ

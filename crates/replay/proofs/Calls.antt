@@ -9,7 +9,7 @@ use native.Mathlib.Omega.{arith}
 use lib.ListN.{length, take, drop, length-append, length-drop}
 use lib.Seq.{take-at}
 use Rattle.replay.specs.Replay.{Run, replayed}
-use Rattle.replay.specs.Window.{kept, shifted, advanced, filledBy, turnOver}
+use Rattle.replay.specs.Window.{kept, shifted, advanced, turnOver}
 use Rattle.replay.specs.Parts.{nextRun, onePart, streamOf}
 use Rattle.replay.specs.Statements.{CallIsPart, BeginsWithNone}
 
@@ -21,12 +21,10 @@ pub call-is-part : CallIsPart
 call-is-part hear p part w room holds =
     let n : ℕ = length (p .left) + length part in
     let r : Run = nextRun hear p part in
-    let filled : filledBy w (streamOf p) (length part) ≡ n = omega arith in
-    let same : take (filledBy w (streamOf p) (length part)) w ≡ p .left ++ part = ap (λ (k : ℕ). take k w) filled ∙ holds in
-    let run : turnOver hear (p .total .picture) w (streamOf p) (length part) ≡ r = ap (replayed hear (p .total .picture)) same in
+    let run : turnOver hear (p .total .picture) w (streamOf p) (length part) ≡ r = ap (replayed hear (p .total .picture)) holds in
     let t = p .total .replay in
     let rest : n - r .replay .at ≡ length (drop (r .replay .at) (p .left ++ part)) = omega (arith, length-drop (r .replay .at) (p .left ++ part), length-append (p .left) part) in (
-      (λ i. advanced (streamOf p) (run i .replay) (filled i))
+      (λ i. advanced (streamOf p) (run i .replay) n)
           ∙ (λ i. record {
             heard = kept-sum (t .heard) (r .replay .heard) i;
             refused = kept-sum (t .refused) (r .replay .refused) i;
@@ -36,7 +34,7 @@ call-is-part hear p part w room holds =
             offset = kept-sum (t .at) (r .replay .offset) i;
           }),
       ap (λ (x : Run). x .picture) run,
-      ap (take (length (onePart hear p part .left))) ((λ i. shifted w (run i .replay .at) (filled i)) ∙ ap (λ (l : List ℕ). drop (r .replay .at) l ++ drop (n - r .replay .at) w) holds)
+      ap (take (length (onePart hear p part .left))) ((λ i. shifted w (run i .replay .at) n) ∙ ap (λ (l : List ℕ). drop (r .replay .at) l ++ drop (n - r .replay .at) w) holds)
           ∙ take-at (drop (r .replay .at) (p .left ++ part)) (drop (n - r .replay .at) w) (length (onePart hear p part .left)) refl,
     )
 

@@ -4,5 +4,7 @@ pub mod Shifts
 pub mod Calls
 pub mod Texts
 pub mod Examples
+pub mod Cells
 pub mod Listings
+pub mod Rooms
 pub mod AllTurns

@@ -1,51 +1,57 @@
 -- Laws of text in a buffer.
 --     followed, texts-follow    one text after another is one text
---     one-more, nothing         the turns of a loop that puts a text, and its start
+--     room-first, room-rest     and the room of both is the room of each
+--     copied, nothing           a byte string, and no text
 --     room-is-enough            text that has room is put whole
 --     digits-none, -last, -more, -length    the digits of a number, case by case, and how many there are at most
 --     lines-are-short           how long the lines are at most
 -- Assumes nothing.
-use mathlib.Core.Path.{_≡_, refl, sym, ap, subst, _∙_}
+use mathlib.Core.Path.{_≡_, refl, sym, ap, _∙_}
 use mathlib.Core.List.{List, [], _∷_, _++_}
 use mathlib.Core.Bool.{cond}
-use Prim.Native.Nat.{ℕ, zero, suc, _+_, _-_, _/_, _%_, _≤_, _<_, min, zero-le}
+use Prim.Native.Nat.{ℕ, zero, suc, _+_, _-_, _/_, _%_, _≤_, _<_, zero-le}
 use Prim.Native.Char.{code}
-use native.Mathlib.Numerals.{add-one}
 use native.Mathlib.Omega.{arith}
-use lib.ListN.{length, take, getD, length-append}
-use lib.Seq.{sets, sets-eq, length-sets, take-suc}
+use lib.ListN.{length, length-append}
+use lib.Seq.{sets, sets-eq, length-sets}
 use lib.Dec.{ltb}
-use borrow.Author.Tests.{lt-ltb, le-ltb}
+use borrow.Author.Tests.{lt-ltb, le-ltb, le-leb}
+use Rattle.laws.specs.Copies.{copiedIn}
 use Rattle.laws.proofs.Choices.{cond-elim}
-use Rattle.laws.proofs.Stores.{sets-append, sets-clipped}
-use Rattle.replay.specs.Text.{Written, letters, decimal, inDecimal, inHex}
+use Rattle.laws.proofs.Stores.{sets-append}
+use Rattle.replay.specs.Text.{Fits, Written, letters, decimal, inDecimal, inHex}
 use Rattle.replay.specs.Lines.{numbered, twoNumbers, moduleLine}
 use Rattle.replay.specs.TextStatements.{RoomIsEnough, TextsFollow, LinesAreShort}
 
 pub followed : {l o o′ : List ℕ} {i r r′ : ℕ} {xs ys : List ℕ} → Written l i xs o r → Written o r ys o′ r′ → Written l i (xs ++ ys) o′ r′
 followed {l} {o} {o′} {i} {r} {r′} {xs} {ys} a b =
-    let n : length o ≡ length l = ap length (a .stored) ∙ length-sets l i xs in
-    let place : r ≡ min (i + length xs) (length o) = a .past ∙ ap (min (i + length xs)) (sym n) in
     record {
-      stored = b .stored ∙ ap (λ (k : ℕ). sets o k ys) place ∙ sets-clipped ys o (i + length xs) ∙ ap (λ (x : List ℕ). sets x (i + length xs) ys) (a .stored) ∙ sym (sets-append xs ys l i);
+      stored = b .stored ∙ ap (λ (k : ℕ). sets o k ys) (a .past) ∙ ap (λ (x : List ℕ). sets x (i + length xs) ys) (a .stored) ∙ sym (sets-append xs ys l i);
       past = omega (arith, a .past, b .past, length-append xs ys);
     }
 
--- a turn of the loop that puts a byte string: one byte more of it
-pub one-more : {l o o′ : List ℕ} {at r r′ : ℕ} (s : List ℕ) (i : ℕ) → i < length s → Written l at (take i s) o r → Written o r (getD s i 0 ∷ []) o′ r′ → Written l at (take (i + 1) s) o′ r′
-one-more {l} {o} {o′} {at} {r} {r′} s i h a b =
-    let e : take i s ++ (getD s i 0 ∷ []) ≡ take (i + 1) s = sym (ap (λ (n : ℕ). take n s) (add-one i) ∙ take-suc s i 0 h) in
-    subst (λ (text : List ℕ). Written l at text o′ r′) e (followed a b)
+-- where one text after another has room, so has the first, ...
+pub room-first : {out : List ℕ} {at : ℕ} {xs : List ℕ} (ys : List ℕ) → Fits out at (xs ++ ys) → Fits out at xs
+room-first {out} {at} {xs} ys f = record { room = omega (arith, f .room, length-append xs ys) }
+
+-- ... and the second after it
+pub room-rest : {l o : List ℕ} {at r : ℕ} {xs ys : List ℕ} → Written l at xs o r → Fits l at (xs ++ ys) → Fits o r ys
+room-rest {l} {o} {at} {r} {xs} {ys} w f = record { room = omega (arith, f .room, w .past, length-append xs ys, ap length (w .stored) ∙ length-sets l at xs) }
+
+-- a byte string that is copied in
+pub copied : (l : List ℕ) (at : ℕ) (text o : List ℕ) (r : ℕ) → Fits l at text → o ≡ copiedIn l at text → r ≡ at + length text → Written l at text o r
+unfolding copiedIn
+copied l at text o r f e p = record { stored = e ∙ (rw (le-leb (at + length text) (length l) (f .room))); past = p }
 
 -- nothing is put
-pub nothing : (l : List ℕ) (at r : ℕ) (text : List ℕ) → text ≡ [] → r ≡ min at (length l) → Written l at text l r
-nothing l at r text e p = rw e (record { stored = refl; past = omega arith })
+pub nothing : (l : List ℕ) (at : ℕ) (text : List ℕ) → text ≡ [] → Written l at text l at
+nothing l at text e = rw e (record { stored = refl; past = omega arith })
 
 pub texts-follow : TextsFollow
 texts-follow before first between second after at next end a b = followed a b
 
 pub room-is-enough : RoomIsEnough
-room-is-enough before at text after next h w = (omega (arith, w .past), w .stored ∙ sets-eq text before at h)
+room-is-enough before at text after next h w = (w .past, w .stored ∙ sets-eq text before at h)
 
 pub digits-none : (left n : ℕ) → left ≡ 0 → decimal left n ≡ []
 unfolding decimal

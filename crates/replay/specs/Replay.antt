@@ -1,8 +1,12 @@
 -- A recording heard record by record.
 use Prim.Native.Nat.{ℕ, zero, suc, _+_, _-_}
 use mathlib.Core.List.{List}
-use mathlib.Core.Bool.{Bool, true, false}
+use mathlib.Core.Bool.{Bool, true, false, cond}
+use lib.Dec.{leb}
 use lib.ListN.{length, take, drop}
+use Rattle.laws.specs.Answers as numbers
+use Rattle.laws.specs.Refusals.{tooShort}
+use Rattle.places.specs.Head.{short}
 use Rattle.places.specs.declared.answers.Outcome.{Outcome}
 use Rattle.places.specs.declared.answers.Outcome.the-variants.{Done, Refused}
 use Rattle.picture.specs.Hearing.{hearing}
@@ -10,6 +14,8 @@ use Rattle.recording.specs.declared.records.Entry.{Entry}
 use Rattle.recording.specs.declared.records.Entry.the-variants.{Record, End, Broken}
 use Rattle.recording.specs.Record.{readRecord}
 use Rattle.replay.specs.declared.records.Replay.{Replay}
+use Rattle.replay.specs.declared.records.Replayed.{Replayed}
+use Rattle.replay.specs.declared.records.Replayed.the-variants as answered
 
 -- what hearing a frame gives: the picture's bytes, and whether the frame was accepted
 pub record Heard : Type 0 where
@@ -65,3 +71,20 @@ runOn hear s b heard refused at = runFrom hear (suc (length s)) s b heard refuse
 -- the recording s heard by a picture of the bytes b
 abbrev pub replayed : Hearing → List ℕ → List ℕ → Run
 replayed hear b s = runOn hear s b 0 0 0
+
+-- what `hear_all` answers: a picture too short is 13, before anything else
+unfoldable pub replayAnswer : List ℕ → List ℕ → Replayed
+replayAnswer b s = cond (short b) (answered.Refused tooShort) (answered.Heard (replayed heardBy b s .replay))
+
+-- in the paper's numbers: what was heard is told beside them
+abbrev pub replayedNumbers : Replayed → numbers.Numbers
+replayedNumbers (answered.Heard r) = numbers.value 0
+replayedNumbers (answered.Refused n) = numbers.refusal n
+
+-- and the picture then; a refusal changes no byte
+unfoldable pub replayPicture : List ℕ → List ℕ → List ℕ
+replayPicture b s = cond (short b) b (replayed heardBy b s .picture)
+
+-- a call on a picture of the bytes b that takes `need` of a buffer's `have` bytes: refused where either is too short
+abbrev pub withRoom : {A : Type 0} → List ℕ → ℕ → ℕ → A → A → A
+withRoom b need have refused done = cond (short b) refused (cond (leb need have) done refused)

@@ -2,10 +2,10 @@
 use Prim.Native.Nat.{ℕ, _+_}
 use mathlib.Core.List.{List, []}
 use mathlib.Core.Bool.{Bool, true, false, cond}
-use lib.Dec.{ltb}
+use lib.Dec.{eqb}
 use lib.ListN.{replicate}
 use Rattle.places.specs.declared.answers.Answer.{Answer}
-use Rattle.places.specs.declared.answers.Answer.the-variants.{Value, Refused}
+use Rattle.places.specs.declared.answers.Answer.the-variants.{Value, NotHeard, Refused}
 use Rattle.places.specs.Limits.{notHeard}
 use Rattle.places.specs.Places.{nameLength}
 use Rattle.questions.specs.Question.{cell, whole-name}
@@ -15,6 +15,7 @@ use Rattle.replay.specs.Replay.{one}
 -- 1 for a name that is whole: the question on it is answered
 abbrev pub isValue : Answer → Bool
 isValue (Value v) = true
+isValue NotHeard = false
 isValue (Refused n) = false
 
 unfoldable pub wholeName : List ℕ → ℕ → ℕ → ℕ
@@ -22,8 +23,13 @@ wholeName b address name = one (isValue (reply b address (whole-name name) (repl
 
 -- 1 for a value, 0 for not heard and for no place
 abbrev pub toldIf : Answer → ℕ
-toldIf (Value v) = cond (ltb v notHeard) 1 0
+toldIf (Value v) = 1
+toldIf NotHeard = 0
 toldIf (Refused n) = 0
+
+-- the same of a number in a row
+abbrev pub toldNumber : ℕ → ℕ
+toldNumber n = cond (eqb n notHeard) 0 1
 
 -- 1 for a cell that is told
 unfoldable pub toldCell : List ℕ → ℕ → ℕ → ℕ

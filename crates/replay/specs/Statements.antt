@@ -4,9 +4,13 @@ use mathlib.Core.Path.{_≡_}
 use mathlib.Core.List.{List, _++_}
 use lib.ListN.{length, take, drop}
 use Rattle.laws.specs.Refusals.{badNumber}
+use Rattle.places.specs.Layout.{size}
 use Rattle.recording.specs.Limits.{longest}
-use Rattle.replay.specs.Replay.{Hearing, replayed}
-use Rattle.replay.specs.Window.{kept, begun, turnOver, heardStream, heardWindow}
+use Rattle.replay.specs.declared.records.Replayed.the-variants as answered
+use Rattle.replay.specs.declared.window.Part.the-variants as part
+use Rattle.replay.specs.declared.window.Stream.{Stream}
+use Rattle.replay.specs.Replay.{Hearing, heardBy, replayed, replayAnswer, replayPicture}
+use Rattle.replay.specs.Window.{kept, begun, turnOver, heardStream, heardWindow, partAnswer, partPicture, partWindow}
 use Rattle.replay.specs.Parts.{then, Parts, noParts, onePart, allParts, joined, streamOf, allTurns, atFirst}
 
 -- a replay stops within the input
@@ -54,3 +58,17 @@ TurnsAreReplay =
     × (allTurns hear (atFirst b w) parts .stream .refused ≡ kept (replayed hear b (joined parts) .replay .refused))
     × (allTurns hear (atFirst b w) parts .stream .refusal ≡ replayed hear b (joined parts) .replay .refusal)
     × (allTurns hear (atFirst b w) parts .stream .offset ≡ kept (replayed hear b (joined parts) .replay .offset))
+
+-- what these statements speak of is what is called: in a picture that is long enough `hear_all` is the replay, ...
+abbrev pub AllIsReplay : Type 0
+AllIsReplay =
+    (b s : List ℕ) → size ≤ length b
+    → (replayAnswer b s ≡ answered.Heard (replayed heardBy b s .replay)) × (replayPicture b s ≡ replayed heardBy b s .picture)
+
+-- ... and where the window holds what is left and the n bytes after it, `hear_part` is the turn
+abbrev pub CallIsTurn : Type 0
+CallIsTurn =
+    (b w : List ℕ) (st : Stream) (n : ℕ) → size ≤ length b → st .left + n ≤ length w
+    → (partAnswer b w st n ≡ part.Heard (heardStream heardBy b w st n))
+    × (partPicture b w st n ≡ turnOver heardBy b w st n .picture)
+    × (partWindow b w st n ≡ heardWindow heardBy b w st n)

@@ -1,5 +1,5 @@
 -- Text as bytes, and what putting it into a buffer gives.
-use Prim.Native.Nat.{ℕ, zero, suc, _+_, _-_, _/_, _%_, min}
+use Prim.Native.Nat.{ℕ, zero, suc, _+_, _-_, _/_, _%_, _≤_}
 use Prim.Native.Char.{code}
 use Prim.Native.String.{String, [] as none, _∷_ as _then_}
 use mathlib.Core.Path.{_≡_}
@@ -14,11 +14,14 @@ abbrev pub letters : String → List ℕ
 letters none = []
 letters (c then s) = code c ∷ letters s
 
--- `text` was put at the place `at` of a buffer: as far as the buffer goes it stands there, every other byte is as before, and
--- `next` is the place past it, or the buffer's end
+-- `text` has room at the place `at` of a buffer
+pub record Fits (out : List ℕ) (at : ℕ) (text : List ℕ) : Type 0 where
+  pub room : at + length text ≤ length out
+
+-- `text` was put at the place `at` of a buffer: it stands there, every other byte is as before, and `next` is the place past it
 pub record Written (before : List ℕ) (at : ℕ) (text after : List ℕ) (next : ℕ) : Type 0 where
   pub stored : after ≡ sets before at text
-  pub past : next ≡ min (at + length text) (length before)
+  pub past : next ≡ at + length text
 
 -- the shortest decimal digits of n, where `left` digits hold it
 unfoldable pub decimal : ℕ → ℕ → List ℕ

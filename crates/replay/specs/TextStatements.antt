@@ -4,10 +4,11 @@ use mathlib.Core.Path.{_≡_}
 use mathlib.Core.List.{List, _++_}
 use lib.ListN.{length, take, drop}
 use Rattle.places.specs.Limits.{addresses}
+use Rattle.recording.specs.declared.writes.Put.the-variants.{Wrote}
 use Rattle.replay.specs.declared.window.Stream.{Stream}
 use Rattle.replay.specs.Text.{Written, letters}
 use Rattle.replay.specs.Lines.{header, moduleLine, brokenLine, countLine}
-use Rattle.replay.specs.Listing.{listingText}
+use Rattle.replay.specs.Listing.{listingText, listingAnswer}
 
 -- text that has room is put whole
 abbrev pub RoomIsEnough : Type 0
@@ -34,6 +35,10 @@ LinesAreShort =
 -- so a listing needs no more than the lines of all addresses and three others
 abbrev pub ListingFits : Type 0
 ListingFits = (b : List ℕ) (stream : Stream) → length (listingText b stream) ≤ lineRoom * (addresses + 3)
+
+-- and what was put lies in the buffer
+abbrev pub PutIsInside : Type 0
+PutIsInside = (b out : List ℕ) (stream : Stream) (n : ℕ) → listingAnswer b out stream ≡ Wrote n → n ≤ length out
 
 -- the paper's listings: of the whole case, and of an empty recording; and the end of one that breaks off
 abbrev pub ListingsRight : Type 0

@@ -1,10 +1,14 @@
 -- An input that comes in parts, heard through a window: a buffer whose first bytes are what is not yet heard.
-use Prim.Native.Nat.{ℕ, _+_, _-_, _%_, _^_, min}
+use Prim.Native.Nat.{ℕ, _+_, _-_, _%_, _^_}
 use mathlib.Core.List.{List, _++_}
 use lib.ListN.{length, take, drop}
+use Rattle.laws.specs.Answers as numbers
+use Rattle.laws.specs.Refusals.{tooShort}
 use Rattle.replay.specs.declared.records.Replay.{Replay}
+use Rattle.replay.specs.declared.window.Part.{Part}
+use Rattle.replay.specs.declared.window.Part.the-variants.{Heard, Refused}
 use Rattle.replay.specs.declared.window.Stream.{Stream}
-use Rattle.replay.specs.Replay.{Hearing, Run, replayed}
+use Rattle.replay.specs.Replay.{Hearing, Run, heardBy, replayed, withRoom}
 
 -- the window w with its bytes from `from` to `filled` at the front, and every byte after those as it was
 abbrev pub shifted : List ℕ → ℕ → ℕ → List ℕ
@@ -29,18 +33,30 @@ advanced st r filled = record {
   offset = kept (st .base + r .offset);
 }
 
--- how many of the window's bytes are filled, where n more stand after those left
-abbrev pub filledBy : List ℕ → Stream → ℕ → ℕ
-filledBy w st n = min (st .left + n) (length w)
-
 -- the replay of a part of n bytes with what was left before it
 abbrev pub turnOver : Hearing → List ℕ → List ℕ → Stream → ℕ → Run
-turnOver hear b w st n = replayed hear b (take (filledBy w st n) w)
+turnOver hear b w st n = replayed hear b (take (st .left + n) w)
 
 -- what is kept after the part
 abbrev pub heardStream : Hearing → List ℕ → List ℕ → Stream → ℕ → Stream
-heardStream hear b w st n = advanced st (turnOver hear b w st n .replay) (filledBy w st n)
+heardStream hear b w st n = advanced st (turnOver hear b w st n .replay) (st .left + n)
 
 -- and the window then
 abbrev pub heardWindow : Hearing → List ℕ → List ℕ → Stream → ℕ → List ℕ
-heardWindow hear b w st n = shifted w (turnOver hear b w st n .replay .at) (filledBy w st n)
+heardWindow hear b w st n = shifted w (turnOver hear b w st n .replay .at) (st .left + n)
+
+-- what `hear_part` answers: a picture too short, or a window too short for the part after what was left, is 13
+unfoldable pub partAnswer : List ℕ → List ℕ → Stream → ℕ → Part
+partAnswer b w st n = withRoom b (st .left + n) (length w) (Refused tooShort) (Heard (heardStream heardBy b w st n))
+
+-- in the paper's numbers
+abbrev pub partNumbers : Part → numbers.Numbers
+partNumbers (Heard st) = numbers.value 0
+partNumbers (Refused n) = numbers.refusal n
+
+-- and the picture and the window then; a refusal changes no byte of either
+unfoldable pub partPicture : List ℕ → List ℕ → Stream → ℕ → List ℕ
+partPicture b w st n = withRoom b (st .left + n) (length w) b (turnOver heardBy b w st n .picture)
+
+unfoldable pub partWindow : List ℕ → List ℕ → Stream → ℕ → List ℕ
+partWindow b w st n = withRoom b (st .left + n) (length w) w (heardWindow heardBy b w st n)

@@ -4,10 +4,11 @@ use crate::text::put_decimal;
 use crate::text::put_hex;
 use crate::text::put_text;
 ghost use mathlib.Core.List.{_++_};
-ghost use Rattle.replay.specs.Text.{Written, inDecimal, inHex, letters};
+ghost use Rattle.replay.specs.Text.{Fits, Written, inDecimal, inHex, letters};
 ghost use Rattle.replay.specs.Lines.{header, numbered, twoNumbers, moduleLine, brokenLine, countLine};
 
-pub fn put_header(out: &mut [u8], at: usize) -> usize
+pub(crate) fn put_header(out: &mut [u8], at: usize) -> usize
+    requires { ⌜ Fits (now out) at header ⌝ }
     ensures { λ r. ⌜ Written (now (out .entry)) at header (now (out .exit)) r ⌝ }
 {
     put_text(out, at, b"address type names cells\n")
@@ -15,6 +16,7 @@ pub fn put_header(out: &mut [u8], at: usize) -> usize
 
 // A word and a number.
 fn put_numbered(out: &mut [u8], at: usize, word: &[u8], n: u64) -> usize
+    requires { ⌜ Fits (now out) at (numbered (now word) n) ⌝ }
     ensures { λ r. ⌜ Written (now (out .entry)) at (numbered (now (word .entry)) n) (now (out .exit)) r ⌝ }
 {
     let digits = put_text(out, at, word);
@@ -23,6 +25,7 @@ fn put_numbered(out: &mut [u8], at: usize, word: &[u8], n: u64) -> usize
 
 // Two words, each with its number, and the newline.
 fn put_two_numbers(out: &mut [u8], at: usize, first: &[u8], m: u64, second: &[u8], n: u64) -> usize
+    requires { ⌜ Fits (now out) at (twoNumbers (now first) m (now second) n) ⌝ }
     ensures { λ r. ⌜ Written (now (out .entry)) at (twoNumbers (now (first .entry)) m (now (second .entry)) n) (now (out .exit)) r ⌝ }
 {
     let rest = put_numbered(out, at, first, m);
@@ -31,7 +34,7 @@ fn put_two_numbers(out: &mut [u8], at: usize, first: &[u8], m: u64, second: &[u8
 }
 
 // The line of a module: address and type in hexadecimal, the count of its whole names and that of its told cells.
-pub fn put_module_line(
+pub(crate) fn put_module_line(
     out: &mut [u8],
     at: usize,
     address: u8,
@@ -39,6 +42,7 @@ pub fn put_module_line(
     names: u64,
     cells: u64,
 ) -> usize
+    requires { ⌜ Fits (now out) at (moduleLine address kind names cells) ⌝ }
     ensures { λ r. ⌜ Written (now (out .entry)) at (moduleLine address kind names cells) (now (out .exit)) r ⌝ }
 {
     let space = put_hex(out, at, address);
@@ -48,14 +52,16 @@ pub fn put_module_line(
 }
 
 // The line of a fault in the recording.
-pub fn put_broken_line(out: &mut [u8], at: usize, offset: u64, refusal: u64) -> usize
+pub(crate) fn put_broken_line(out: &mut [u8], at: usize, offset: u64, refusal: u64) -> usize
+    requires { ⌜ Fits (now out) at (brokenLine offset refusal) ⌝ }
     ensures { λ r. ⌜ Written (now (out .entry)) at (brokenLine offset refusal) (now (out .exit)) r ⌝ }
 {
     put_two_numbers(out, at, b"broken at byte ", offset, b" refusal ", refusal)
 }
 
 // The last line.
-pub fn put_count_line(out: &mut [u8], at: usize, heard: u64, refused: u64) -> usize
+pub(crate) fn put_count_line(out: &mut [u8], at: usize, heard: u64, refused: u64) -> usize
+    requires { ⌜ Fits (now out) at (countLine heard refused) ⌝ }
     ensures { λ r. ⌜ Written (now (out .entry)) at (countLine heard refused) (now (out .exit)) r ⌝ }
 {
     put_two_numbers(out, at, b"heard ", heard, b" refused ", refused)

@@ -5,14 +5,22 @@ use crate::lines::put_header;
 use crate::lines::put_module_line;
 use crate::sheets::told_cells;
 use crate::sheets::whole_names;
-use crate::text::clip;
 use crate::window::Stream;
+use laws::TOO_SHORT;
+use laws::copy_in;
 use laws::wide32;
 use places::ADDRESSES;
 use places::Answer;
+use places::SIZE;
+use questions::AddressAsked;
+use recording::Put;
+ghost use mathlib.Core.Path.{_≡_};
+ghost use Prim.Native.Nat.{_≤_};
+ghost use lib.ListN.{length};
+ghost use Rattle.places.specs.Layout.{size};
 ghost use Rattle.places.specs.Limits.{addresses};
-ghost use Rattle.replay.specs.Text.{Written};
-ghost use Rattle.replay.specs.Listing.{sheetText, moduleText, modulesText, faultText, listingText};
+ghost use Rattle.replay.specs.Text.{Fits, Written};
+ghost use Rattle.replay.specs.Listing.{sheetText, moduleText, modulesText, faultText, listingText, listingAnswer, listingBytes};
 
 // The room that the longest listing takes: that of the longest line for each address and for three lines more.
 const LINE_ROOM: usize = 65;
@@ -21,6 +29,7 @@ pub const LISTING_ROOM: usize = LINE_ROOM * (ADDRESSES as usize + 3);
 
 // The line of a listed module.
 fn put_sheet(picture: &[u8], out: &mut [u8], at: usize, address: u32, kind: u8) -> usize
+    requires { ⌜ Fits (now out) at (sheetText (now picture) address kind) ⌝ }
     ensures { λ r. ⌜ Written (now (out .entry)) at (sheetText (now (picture .entry)) address kind) (now (out .exit)) r ⌝ }
 {
     let extent = frame::extent_of(wide32(kind));
@@ -31,19 +40,22 @@ fn put_sheet(picture: &[u8], out: &mut [u8], at: usize, address: u32, kind: u8) 
 
 // The line of the module at an address, nothing where none is listed.
 fn put_module(picture: &[u8], out: &mut [u8], at: usize, address: u32) -> usize
+    requires { ⌜ Fits (now out) at (moduleText (now picture) address) ⌝ }
     ensures { λ r. ⌜ Written (now (out .entry)) at (moduleText (now (picture .entry)) address) (now (out .exit)) r ⌝ }
 {
-    match questions::type_of(picture, address) {
+    match questions::type_of(picture, AddressAsked(address)) {
         Answer::Value(kind) => put_sheet(picture, out, at, address, (kind % 256) as u8),
-        Answer::Refused(_) => clip(at, out.len()),
+        Answer::NotHeard => at,
+        Answer::Refused(_) => at,
     }
 }
 
 // The lines of all modules, in address order.
 fn put_modules(picture: &[u8], out: &mut [u8], at: usize) -> usize
+    requires { ⌜ Fits (now out) at (modulesText (now picture) addresses) ⌝ }
     ensures { λ r. ⌜ Written (now (out .entry)) at (modulesText (now (picture .entry)) addresses) (now (out .exit)) r ⌝ }
 {
-    let mut next = clip(at, out.len());
+    let mut next = at;
     let mut address: u32 = 0;
     while address < ADDRESSES {
         next = put_module(picture, out, next, address);
@@ -54,16 +66,18 @@ fn put_modules(picture: &[u8], out: &mut [u8], at: usize) -> usize
 
 // The line of a fault, nothing where there is none.
 fn put_fault(out: &mut [u8], at: usize, refusal: u8, offset: u64) -> usize
+    requires { ⌜ Fits (now out) at (faultText refusal offset) ⌝ }
     ensures { λ r. ⌜ Written (now (out .entry)) at (faultText refusal offset) (now (out .exit)) r ⌝ }
 {
     if refusal == 0 {
-        return clip(at, out.len());
+        return at;
     }
     put_broken_line(out, at, offset, refusal as u64)
 }
 
 // The whole listing, from the buffer's first byte; the answer is the place past it.
-pub fn put_listing(picture: &[u8], out: &mut [u8], stream: Stream) -> usize
+fn put_lines(picture: &[u8], out: &mut [u8], stream: Stream) -> usize
+    requires { ⌜ Fits (now out) 0 (listingText (now picture) stream) ⌝ }
     ensures { λ r. ⌜ Written (now (out .entry)) 0 (listingText (now (picture .entry)) stream) (now (out .exit)) r ⌝ }
 {
     let modules = put_header(out, 0);
@@ -71,4 +85,34 @@ pub fn put_listing(picture: &[u8], out: &mut [u8], stream: Stream) -> usize
     let refusal = stream.refusal;
     let counts = put_fault(out, fault, refusal, stream.offset);
     put_count_line(out, counts, stream.heard, stream.refused)
+}
+
+// The listing in a buffer that may be too short for it: made in room of its own first, and then copied whole or not at all.
+fn put_if_it_fits(picture: &[u8], out: &mut [u8], stream: Stream) -> Put
+    requires { ⌜ size ≤ length (now picture) ⌝ }
+    ensures { λ r. ⌜ r ≡ listingAnswer (now (picture .entry)) (now (out .entry)) stream ⌝ }
+    ensures { λ _. ⌜ now (out .exit) ≡ listingBytes (now (picture .entry)) (now (out .entry)) stream ⌝ }
+{
+    let mut room = [0u8; LISTING_ROOM];
+    let n = put_lines(picture, &mut room, stream);
+    if n <= out.len() {
+        copy_in(out, 0, &room[0..n]);
+        return Put::Wrote(n);
+    }
+    Put::Refused(TOO_SHORT)
+}
+
+// Puts the whole listing at the buffer's front. A buffer of LISTING_ROOM bytes holds any listing.
+pub fn put_listing(picture: &[u8], out: &mut [u8], stream: Stream) -> Put
+    ensures { λ r. ⌜ r ≡ listingAnswer (now (picture .entry)) (now (out .entry)) stream ⌝ }
+    ensures { λ _. ⌜ now (out .exit) ≡ listingBytes (now (picture .entry)) (now (out .entry)) stream ⌝ }
+{
+    if picture.len() < SIZE {
+        return Put::Refused(TOO_SHORT);
+    }
+    if out.len() < LISTING_ROOM {
+        return put_if_it_fits(picture, out, stream);
+    }
+    let n = put_lines(picture, out, stream);
+    Put::Wrote(n)
 }

@@ -1,9 +1,11 @@
 // Hearing the records of a slice.
+use laws::TOO_SHORT;
 use places::Outcome;
+use places::SIZE;
 use recording::Entry;
 ghost use mathlib.Core.Path.{_≡_};
 ghost use Rattle.picture.specs.Hearing.{hearing};
-ghost use Rattle.replay.specs.Replay.{one, isDone, heardBy, replayed};
+ghost use Rattle.replay.specs.Replay.{one, isDone, heardBy, replayed, replayAnswer, replayPicture};
 
 // The records accepted and refused, the offset of the first byte that is not read as a record, and what is at fault there:
 // the refusal's number, 0 where the slice ends, and its offset.
@@ -13,6 +15,12 @@ pub struct Replay {
     pub at: usize,
     pub refusal: u8,
     pub offset: usize,
+}
+
+// What hearing a recording answers.
+pub enum Replayed {
+    Heard(Replay),
+    Refused(u8),
 }
 
 // Hears a frame: 1 where it is accepted, else 0.
@@ -27,7 +35,7 @@ fn hear_one(picture: &mut [u8], identifier: u32, remote: u32, data: &[u8]) -> u6
 }
 
 // Hears every record of s, in order, up to its end or to a fault.
-pub fn hear_all(picture: &mut [u8], s: &[u8]) -> Replay
+pub fn hear_records(picture: &mut [u8], s: &[u8]) -> Replay
     ensures { λ r. ⌜ r ≡ replayed heardBy (now (picture .entry)) (now (s .entry)) .replay ⌝ }
     ensures { λ _. ⌜ now (picture .exit) ≡ replayed heardBy (now (picture .entry)) (now (s .entry)) .picture ⌝ }
 {
@@ -69,4 +77,16 @@ pub fn hear_all(picture: &mut [u8], s: &[u8]) -> Replay
             }
         }
     }
+}
+
+// Hears a whole recording.
+pub fn hear_all(picture: &mut [u8], s: &[u8]) -> Replayed
+    ensures { λ r. ⌜ r ≡ replayAnswer (now (picture .entry)) (now (s .entry)) ⌝ }
+    ensures { λ _. ⌜ now (picture .exit) ≡ replayPicture (now (picture .entry)) (now (s .entry)) ⌝ }
+{
+    if picture.len() < SIZE {
+        return Replayed::Refused(TOO_SHORT);
+    }
+    let r = hear_records(picture, s);
+    Replayed::Heard(r)
 }

@@ -1,47 +1,36 @@
-// Pieces of text: a byte, a byte string, a number in decimal, a byte in hexadecimal.
+// Pieces of text, each put where it has room: a byte, a byte string, a number in decimal, a byte in hexadecimal.
+use laws::copy_in;
 ghost use mathlib.Core.List.{[], _∷_};
 ghost use mathlib.Core.Path.{_≡_};
-ghost use Prim.Native.Nat.{_<_, min};
-ghost use Rattle.replay.specs.Text.{Written, decimal, inDecimal, hexDigit, inHex};
+ghost use Prim.Native.Nat.{_<_};
+ghost use Rattle.replay.specs.Text.{Fits, Written, decimal, inDecimal, hexDigit, inHex};
 
 // The most digits that a 64-bit number has.
 const MOST_DIGITS: u32 = 20;
 
-// The place where nothing was put: `at`, or the end of the buffer's `len` bytes where it lies beyond.
-pub fn clip(at: usize, len: usize) -> usize
-    ensures { λ r. ⌜ r ≡ min at len ⌝ }
-{
-    if at < len { at } else { len }
-}
-
-pub fn put_byte(out: &mut [u8], at: usize, b: u8) -> usize
+pub(crate) fn put_byte(out: &mut [u8], at: usize, b: u8) -> usize
+    requires { ⌜ Fits (now out) at (b ∷ []) ⌝ }
     ensures { λ r. ⌜ Written (now (out .entry)) at (b ∷ []) (now (out .exit)) r ⌝ }
 {
-    if out.len() <= at {
-        return out.len();
-    }
     out[at] = b;
     at + 1
 }
 
-pub fn put_text(out: &mut [u8], at: usize, text: &[u8]) -> usize
+pub(crate) fn put_text(out: &mut [u8], at: usize, text: &[u8]) -> usize
+    requires { ⌜ Fits (now out) at (now text) ⌝ }
     ensures { λ r. ⌜ Written (now (out .entry)) at (now (text .entry)) (now (out .exit)) r ⌝ }
 {
-    let mut next = clip(at, out.len());
-    let mut i = 0;
-    while i < text.len() {
-        next = put_byte(out, next, text[i]);
-        i += 1;
-    }
-    next
+    copy_in(out, at, text);
+    at + text.len()
 }
 
 // The number n, of at most `left` digits: all digits but the last, and then the last.
 fn put_digits(out: &mut [u8], at: usize, left: u32, n: u64) -> usize
+    requires { ⌜ Fits (now out) at (decimal left n) ⌝ }
     ensures { λ r. ⌜ Written (now (out .entry)) at (decimal left n) (now (out .exit)) r ⌝ }
 {
     if left == 0 {
-        return clip(at, out.len());
+        return at;
     }
     if n < 10 {
         return put_byte(out, at, b'0' + n as u8);
@@ -50,7 +39,8 @@ fn put_digits(out: &mut [u8], at: usize, left: u32, n: u64) -> usize
     put_byte(out, last, b'0' + (n % 10) as u8)
 }
 
-pub fn put_decimal(out: &mut [u8], at: usize, n: u64) -> usize
+pub(crate) fn put_decimal(out: &mut [u8], at: usize, n: u64) -> usize
+    requires { ⌜ Fits (now out) at (inDecimal n) ⌝ }
     ensures { λ r. ⌜ Written (now (out .entry)) at (inDecimal n) (now (out .exit)) r ⌝ }
 {
     put_digits(out, at, MOST_DIGITS, n)
@@ -63,7 +53,8 @@ fn hex_digit(d: u8) -> u8
     if d < 10 { b'0' + d } else { b'A' + (d - 10) }
 }
 
-pub fn put_hex(out: &mut [u8], at: usize, b: u8) -> usize
+pub(crate) fn put_hex(out: &mut [u8], at: usize, b: u8) -> usize
+    requires { ⌜ Fits (now out) at (inHex b) ⌝ }
     ensures { λ r. ⌜ Written (now (out .entry)) at (inHex b) (now (out .exit)) r ⌝ }
 {
     let low = put_byte(out, at, hex_digit(b / 16));

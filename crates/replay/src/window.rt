@@ -1,11 +1,14 @@
 // Hearing an input that comes in parts, through a window: a buffer whose first bytes are what is not yet heard.
 use crate::records::Replay;
-use crate::records::hear_all;
+use crate::records::hear_records;
+use laws::TOO_SHORT;
+use places::SIZE;
 ghost use mathlib.Core.Path.{_≡_};
-ghost use Prim.Native.Nat.{_+_, _≤_, min};
+ghost use Prim.Native.Nat.{_+_, _≤_};
+ghost use lib.Dec.{leb};
 ghost use lib.ListN.{length, take};
 ghost use Rattle.replay.specs.Replay.{heardBy, replayed};
-ghost use Rattle.replay.specs.Window.{shifted, advanced, begun, turnOver, heardStream, heardWindow};
+ghost use Rattle.replay.specs.Window.{shifted, advanced, begun, partAnswer, partPicture, partWindow};
 
 // What is kept between two parts: the records accepted and refused, the offset of the window's first byte, how many of the window's
 // bytes are not yet heard, and what stopped the hearing: the refusal's number, 0 for the end, and its offset. The counts and the
@@ -17,6 +20,12 @@ pub struct Stream {
     pub left: usize,
     pub refusal: u8,
     pub offset: u64,
+}
+
+// What hearing a part answers.
+pub enum Part {
+    Heard(Stream),
+    Refused(u8),
 }
 
 // Moves the bytes from `from` to `filled` to the front.
@@ -39,20 +48,23 @@ fn turn(picture: &mut [u8], window: &mut [u8], filled: usize) -> Replay
     ensures { λ _. ⌜ now (picture .exit) ≡ replayed heardBy (now (picture .entry)) (take filled (now (window .entry))) .picture ⌝ }
     ensures { λ r. ⌜ now (window .exit) ≡ shifted (now (window .entry)) (r .at) filled ⌝ }
 {
-    let r = hear_all(picture, &window[0..filled]);
+    let r = hear_records(picture, &window[0..filled]);
     let at = r.at;
     shift(window, at, filled);
     r
 }
 
-// How many of a window's `len` bytes are filled, by n bytes after the first `left`.
-fn filled_to(left: usize, n: usize, len: usize) -> usize
-    ensures { λ r. ⌜ r ≡ min (left + n) len ⌝ }
+// The n bytes after the first `left` lie in a window of `len` bytes.
+fn fits(left: usize, n: usize, len: usize) -> bool
+    ensures { λ r. ⌜ r ≡ leb (left + n) len ⌝ }
 {
-    if len <= left {
-        return len;
+    if len < left {
+        return false;
     }
-    if n < len - left { left + n } else { len }
+    if len - left < n {
+        return false;
+    }
+    true
 }
 
 fn advance(stream: Stream, r: Replay, filled: usize) -> Stream
@@ -84,14 +96,21 @@ pub fn begin() -> Stream
 }
 
 // Hears the records that the next part completes: its n bytes stand in the window after the first `left`. What is left of it is at the
-// window's front again. A part that the window cannot hold is cut off at the window's end.
-pub fn hear_part(picture: &mut [u8], window: &mut [u8], stream: Stream, n: usize) -> Stream
-    ensures { λ s. ⌜ s ≡ heardStream heardBy (now (picture .entry)) (now (window .entry)) stream n ⌝ }
-    ensures { λ _. ⌜ now (picture .exit) ≡ turnOver heardBy (now (picture .entry)) (now (window .entry)) stream n .picture ⌝ }
-    ensures { λ _. ⌜ now (window .exit) ≡ heardWindow heardBy (now (picture .entry)) (now (window .entry)) stream n ⌝ }
+// window's front again.
+pub fn hear_part(picture: &mut [u8], window: &mut [u8], stream: Stream, n: usize) -> Part
+    ensures { λ r. ⌜ r ≡ partAnswer (now (picture .entry)) (now (window .entry)) stream n ⌝ }
+    ensures { λ _. ⌜ now (picture .exit) ≡ partPicture (now (picture .entry)) (now (window .entry)) stream n ⌝ }
+    ensures { λ _. ⌜ now (window .exit) ≡ partWindow (now (picture .entry)) (now (window .entry)) stream n ⌝ }
 {
     let left = stream.left;
-    let filled = filled_to(left, n, window.len());
-    let r = turn(picture, window, filled);
-    advance(stream, r, filled)
+    if picture.len() < SIZE {
+        return Part::Refused(TOO_SHORT);
+    }
+    if fits(left, n, window.len()) {
+        let filled = left + n;
+        let r = turn(picture, window, filled);
+        let heard = advance(stream, r, filled);
+        return Part::Heard(heard);
+    }
+    Part::Refused(TOO_SHORT)
 }

@@ -6,6 +6,7 @@ use crate::text::part;
 use crate::words::ROOM;
 use crate::words::TOO_LONG;
 use laws::wide32;
+use questions::AddressAsked;
 
 // The entries that a row may have.
 const ENTRIES: usize = 300;
@@ -16,9 +17,9 @@ fn fill_name(picture: &[u8], letter: u8, at: u32, number: u32, room: &mut [u8], 
         return TOO_LONG;
     }
     if letter == b'n' {
-        return fill_number(questions::name(picture, at, number, &mut room[0..n]));
+        return fill_number(questions::name(picture, AddressAsked(at), number, &mut room[0..n]));
     }
-    fill_number(questions::name_heard(picture, at, number, &mut room[0..n]))
+    fill_number(questions::name_heard(picture, AddressAsked(at), number, &mut room[0..n]))
 }
 
 // A name asked for, into a buffer of dots that is as long as what it holds afterwards.
@@ -45,7 +46,7 @@ fn fill_row(picture: &[u8], at: u32, row: &mut [u16], length: u32) -> u32 {
     if n > row.len() {
         return TOO_LONG;
     }
-    fill_number(questions::memory_row(picture, at, &mut row[0..n]))
+    fill_number(questions::memory_row(picture, AddressAsked(at), &mut row[0..n]))
 }
 
 fn entry_at(row: &[u16; ENTRIES], i: u32) -> u32 {

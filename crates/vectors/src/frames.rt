@@ -2,13 +2,13 @@
 use crate::tally::Tally;
 use crate::text::part;
 use crate::text::past;
+use codec::Frame;
+use codec::Writing;
 use frame::Address;
 use frame::Data;
-use frame::Frame;
 use frame::Message;
 use frame::Reading;
 use frame::VMB8IR;
-use frame::Writing;
 use laws::wide32;
 
 // 01, "Identifier": 512 × priority + 2 × address, at address H'2A' and at both ends of the addresses.
@@ -54,14 +54,14 @@ fn frame_got(f: Frame, identifier: u32, remote: u32, data: &[u8]) -> u32 {
 
 // What a message is written as, held against the frame that it was read from.
 fn write_got(kind: u32, a: Address, m: Message, identifier: u32, remote: u32, data: &[u8]) -> u32 {
-    match frame::write(kind, a, m) {
+    match codec::write(kind, a, m) {
         Writing::Written(f) => frame_got(f, identifier, remote, data),
         Writing::Refused(n) => wide32(n),
     }
 }
 
 fn read_got(kind: u32, identifier: u32, remote: u32, data: &[u8]) -> u32 {
-    match frame::read(kind, identifier, remote, data) {
+    match codec::read(kind, identifier, remote, data) {
         Reading::Read(a, m) => write_got(kind, a, m, identifier, remote, data),
         Reading::Refused(n) => wide32(n),
     }

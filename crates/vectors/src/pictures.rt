@@ -4,11 +4,16 @@ use crate::words::REFUSED;
 use laws::wide32;
 use places::Answer;
 use places::Outcome;
+use questions::AddressAsked;
+use questions::LocationAsked;
 
 // A VMB8IR stands at H'2A', a VMB1BL at H'31': 512 × priority + 2 × address, of low priority.
 const IR_LOW: u32 = 1620;
 
 const BL_LOW: u32 = 1634;
+
+// The number of a place that is not heard.
+const UNKNOWN: u32 = 256;
 
 pub(crate) fn outcome_number(o: Outcome) -> u32 {
     match o {
@@ -25,6 +30,7 @@ pub(crate) fn wide_value(v: u16) -> u32 {
 pub(crate) fn fill_number(a: Answer) -> u32 {
     match a {
         Answer::Value(v) => wide_value(v),
+        Answer::NotHeard => UNKNOWN,
         Answer::Refused(n) => wide32(n),
     }
 }
@@ -32,6 +38,7 @@ pub(crate) fn fill_number(a: Answer) -> u32 {
 fn answer_number(a: Answer) -> u32 {
     match a {
         Answer::Value(v) => wide_value(v),
+        Answer::NotHeard => UNKNOWN,
         Answer::Refused(n) => REFUSED + wide32(n),
     }
 }
@@ -71,12 +78,12 @@ pub(crate) fn back(t: Tally, of: &[u8], picture: &mut [u8], number: u32) -> Tall
 fn answer(picture: &[u8], letter: u8, at: u32, number: u32) -> Answer {
     match letter {
         b'K' => questions::kept(picture),
-        b'T' => questions::type_of(picture, at),
-        b'Y' => questions::build_year(picture, at),
-        b'E' => questions::build_week(picture, at),
-        b'C' => questions::cell(picture, at, number),
-        b'L' => questions::led(picture, at, number),
-        b'I' => questions::blind(picture, at, number),
+        b'T' => questions::type_of(picture, AddressAsked(at)),
+        b'Y' => questions::build_year(picture, AddressAsked(at)),
+        b'E' => questions::build_week(picture, AddressAsked(at)),
+        b'C' => questions::cell(picture, AddressAsked(at), LocationAsked(number)),
+        b'L' => questions::led(picture, AddressAsked(at), number),
+        b'I' => questions::blind(picture, AddressAsked(at), number),
         _ => Answer::Refused(0),
     }
 }

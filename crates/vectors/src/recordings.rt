@@ -8,12 +8,17 @@ use crate::words::TOO_LONG;
 use laws::wide32;
 use recording::Entry;
 use recording::Put;
+use replay::Part;
+use replay::Replayed;
 use replay::Stream;
 
 // What is answered where no refusal is: a record, or the end.
 const RECORD: u32 = 100;
 
 const END: u32 = 101;
+
+// What is answered where a buffer is too short.
+const SHORT: u32 = REFUSED + 13;
 
 fn as_number(n: usize) -> u32 {
     if n < 65536 { n as u32 } else { u32::MAX }
@@ -155,18 +160,81 @@ pub(crate) fn put(
     t.holds(of, expected, check::same(part(&room, 0, n), expected))
 }
 
-// Hears a recording in a fresh picture.
-fn hear(picture: &mut [u8], s: &[u8]) -> Stream {
-    let mut window = [0u8; ROOM];
-    laws::copy_in(&mut window, 0, s);
-    picture::fresh(picture);
-    replay::hear_part(picture, &mut window, replay::begin(), s.len())
+fn part_number(p: Part) -> u32 {
+    match p {
+        Part::Heard(_) => 0,
+        Part::Refused(n) => REFUSED + wide32(n),
+    }
 }
 
-// A recording's listing.
+// Hears the first n bytes of a window in which the recording stands.
+fn hear(picture: &mut [u8], s: &[u8], n: usize) -> Part {
+    let mut window = [0u8; ROOM];
+    laws::copy_in(&mut window, 0, s);
+    replay::hear_part(picture, &mut window, replay::begin(), n)
+}
+
+// Puts a listing into the first n bytes.
+fn listing_got(picture: &[u8], room: &mut [u8], n: usize, stream: Stream) -> u32 {
+    if n > room.len() {
+        return TOO_LONG;
+    }
+    put_number(replay::put_listing(picture, &mut room[0..n], stream))
+}
+
+// The listing, put into as many dots as it has bytes.
+fn listed(t: Tally, of: &[u8], picture: &[u8], stream: Stream, expected: &[u8]) -> Tally {
+    let n = expected.len();
+    let mut room = [b'.'; ROOM];
+    let got = listing_got(picture, &mut room, n, stream);
+    let t = t.compare(of, expected, got, as_number(n));
+    t.holds(of, expected, check::same(part(&room, 0, n), expected))
+}
+
+// Put into one dot fewer, it leaves the dots.
+fn not_listed(t: Tally, of: &[u8], picture: &[u8], stream: Stream, expected: &[u8]) -> Tally {
+    let n = std::num::wrapping_sub_usize(expected.len(), 1);
+    let mut room = [b'.'; ROOM];
+    let got = listing_got(picture, &mut room, n, stream);
+    let t = t.compare(of, expected, got, SHORT);
+    t.holds(of, expected, check::same(&room, &[b'.'; ROOM]))
+}
+
+// Hears a recording in a fresh picture.
+fn hear_anew(picture: &mut [u8], s: &[u8]) -> Part {
+    picture::fresh(picture);
+    hear(picture, s, s.len())
+}
+
+fn listings(t: Tally, of: &[u8], picture: &[u8], stream: Stream, expected: &[u8]) -> Tally {
+    let t = listed(t, of, picture, stream, expected);
+    not_listed(t, of, picture, stream, expected)
+}
+
+// A recording's listing. A part longer than its window is not heard.
 pub(crate) fn listing(t: Tally, of: &[u8], picture: &mut [u8], s: &[u8], expected: &[u8]) -> Tally {
-    let stream = hear(picture, s);
-    let mut room = [0u8; 256];
-    let n = replay::put_listing(picture, &mut room, stream);
-    t.holds(of, s, check::same(part(&room, 0, n), expected))
+    let t = t.compare(of, s, part_number(hear(picture, s, ROOM + 1)), SHORT);
+    match hear_anew(picture, s) {
+        Part::Heard(stream) => listings(t, of, picture, stream, expected),
+        Part::Refused(_) => t.holds(of, s, false),
+    }
+}
+
+fn all_got(picture: &mut [u8]) -> u32 {
+    match replay::hear_all(picture, b"") {
+        Replayed::Heard(_) => 0,
+        Replayed::Refused(n) => REFUSED + wide32(n),
+    }
+}
+
+fn text_got(picture: &[u8]) -> u32 {
+    let mut room = [b'.'; ROOM];
+    listing_got(picture, &mut room, ROOM, replay::begin())
+}
+
+// A picture of too few bytes is 13 for a recording, for a part of one, and for a listing.
+pub(crate) fn short(t: Tally, of: &[u8], picture: &mut [u8]) -> Tally {
+    let t = t.compare(of, b"", all_got(picture), SHORT);
+    let t = t.compare(of, b"", part_number(hear(picture, b"", 0)), SHORT);
+    t.compare(of, b"", text_got(picture), SHORT)
 }

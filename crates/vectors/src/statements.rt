@@ -66,7 +66,8 @@ fn shape_at(table: &[u8], at: usize) -> &[u8] {
 fn short(t: Tally, of: &[u8], picture: &mut [u8], size: u32) -> Tally {
     let size = size as usize;
     if size <= picture.len() {
-        return pictures::short(t, of, &mut picture[0..size]);
+        let t = pictures::short(t, of, &mut picture[0..size]);
+        return recordings::short(t, of, &mut picture[0..size]);
     }
     t.holds(of, b"", false)
 }

@@ -13,12 +13,13 @@ use Rattle.laws.specs.Copies.{copiedIn}
 use Rattle.laws.proofs.Testing.{held, and-both, or-right}
 use Rattle.laws.proofs.Stores.{sets-front}
 use Rattle.laws.proofs.Copying.{copied-all}
-use Rattle.frame.specs.Types.{noRow, rowFor}
+use Rattle.frame.specs.Types.{longType, shortType, noRow, rowFor}
 use Rattle.frame.specs.Bytes.{dataOf}
-use Rattle.frame.specs.Messages.{typeCommand, longType, encode}
+use Rattle.frame.specs.Messages.{typeCommand}
+use Rattle.codec.specs.Encoding.{encode}
 use Rattle.frame.specs.Fields.{isBlind, timeAllowed, timedFault, fault}
 use Rattle.frame.specs.Reading.{ownType, reading}
-use Rattle.frame.specs.Writing.{typeFits, writing}
+use Rattle.codec.specs.Writing.{typeFits, writing}
 use Rattle.frame.specs.declared.types.Row.{Row}
 use Rattle.frame.specs.declared.identifiers.Address.{Address}
 use Rattle.frame.specs.declared.messages.Time.{Time}
@@ -27,11 +28,11 @@ use Rattle.frame.specs.declared.messages.Command.{Command}
 use Rattle.frame.specs.declared.messages.Command.the-variants.{TypeLong, TypeShort, Buttons, CellTold, BlockTold, CellAsked, BlockAsked, DumpAsked, CellSet, BlockSet, Errors, ErrorsAsked, NameOne, NameTwo, NameThree, NameAsked, StatusAsked, InputStatus, LedsAll, Leds, BlindStatus, BlindStop, BlindUp, BlindDown}
 use Rattle.frame.specs.declared.messages.Message.{Message}
 use Rattle.frame.specs.declared.messages.Message.the-variants.{TypeRequest, Tells}
-use Rattle.frame.specs.declared.writer.Frame.{Frame}
-use Rattle.frame.specs.declared.writer.Writing.the-variants.{Written}
+use Rattle.codec.specs.declared.writer.Frame.{Frame}
+use Rattle.codec.specs.declared.writer.Writing.the-variants.{Written}
 use Rattle.frame.proofs.Listed.{everywhere, of-any}
-use Rattle.frame.proofs.Shapes.{cell-near, block-near}
-use Rattle.frame.proofs.RoundTrip.{read-then-written, written-then-read, written-lawful}
+use Rattle.codec.proofs.Shapes.{cell-near, block-near}
+use Rattle.codec.proofs.RoundTrip.{read-then-written, written-then-read, written-lawful}
 use Rattle.velbus.specs.Parts.{timeSeconds, Numbered, longTypes, shortTypes, noMessage, numberIn, commandParts, partsOf}
 use Rattle.velbus.specs.Words.{roomWord}
 use Rattle.velbus.specs.Layout.{messageSize, laidBytes, heldIn}
@@ -93,9 +94,9 @@ long-numbered : (k : ℕ) → eqb longType (rowFor k typeCommand .0) ≡ true �
 unfolding numberIn
 long-numbered = type-numbered longTypes longType refl (λ k c. refl)
 
-short-numbered : (k : ℕ) → eqb 5 (rowFor k typeCommand .0) ≡ true → numberIn shortTypes k < noMessage
+short-numbered : (k : ℕ) → eqb shortType (rowFor k typeCommand .0) ≡ true → numberIn shortTypes k < noMessage
 unfolding numberIn
-short-numbered = type-numbered shortTypes 5 refl (λ k c. refl)
+short-numbered = type-numbered shortTypes shortType refl (λ k c. refl)
 
 numbered : (a : Address) (m : Command) → typeFits (dataOf (encode m)) ≡ true → commandParts a m .what < noMessage
 unfolding commandParts

@@ -4,27 +4,26 @@ use mathlib.Core.List.{List, _∷_}
 use mathlib.Core.Bool.{cond}
 use lib.Dec.{ltb}
 use lib.ListN.{length}
-use Rattle.laws.specs.Refusals.{badType, notListed, tooShort}
-use Rattle.laws.specs.Tests.{among, unless}
+use Rattle.laws.specs.Refusals.{notListed, tooShort}
+use Rattle.laws.specs.Answers.{unlessRefusal}
 use Rattle.laws.specs.Copies.{copiedIn}
-use Rattle.frame.specs.Types.{handedTypes}
 use Rattle.frame.specs.Bytes.{bytesOf}
-use Rattle.frame.specs.Writing.{writing}
-use Rattle.frame.specs.declared.reader.Reading.{Reading}
-use Rattle.frame.specs.declared.reader.Reading.the-variants as r
-use Rattle.frame.specs.declared.writer.Frame.{Frame}
-use Rattle.frame.specs.declared.writer.Writing.{Writing}
-use Rattle.frame.specs.declared.writer.Writing.the-variants as w
+use Rattle.frame.specs.Reading.{readingNumbers}
+use Rattle.codec.specs.Writing.{handedRefusal, writing, writingNumbers}
+use Rattle.frame.specs.declared.messages.Reading.{Reading}
+use Rattle.frame.specs.declared.messages.Reading.the-variants as r
+use Rattle.codec.specs.declared.writer.Frame.{Frame}
+use Rattle.codec.specs.declared.writer.Writing.{Writing}
+use Rattle.codec.specs.declared.writer.Writing.the-variants as w
 use Rattle.velbus.specs.declared.parts.Held.{Held}
 use Rattle.velbus.specs.declared.parts.Held.the-variants.{Holds, Nothing}
-use Rattle.velbus.specs.Words.{refusedWord, roomWord}
+use Rattle.velbus.specs.Words.{refusedWord, word, roomNumbers}
 use Rattle.velbus.specs.Parts.{partsOf}
 use Rattle.velbus.specs.Layout.{messageSize, laidBytes, heldIn}
 
 -- velbus_read: the reader's own refusals, then 13
 abbrev pub readWord : Reading → ℕ → ℕ
-readWord (r.Read a m) room = roomWord room messageSize
-readWord (r.Refused number) room = refusedWord number
+readWord r room = word (unlessRefusal (readingNumbers r) (roomNumbers room messageSize))
 
 abbrev pub readInto : Reading → List ℕ → List ℕ
 readInto (r.Read a m) out = copiedIn out 0 (laidBytes (partsOf a m))
@@ -39,8 +38,7 @@ frameBytes f = f .identifier % 256 ∷ f .identifier / 256 % 256 ∷ f .remote %
 
 -- the writer's own refusals, then 13
 abbrev pub writtenWord : Writing → ℕ → ℕ
-writtenWord (w.Written f) room = roomWord room frameSize
-writtenWord (w.Refused number) room = refusedWord number
+writtenWord w room = word (unlessRefusal (writingNumbers w) (roomNumbers room frameSize))
 
 abbrev pub writtenInto : Writing → List ℕ → List ℕ
 writtenInto (w.Written f) out = copiedIn out 0 (frameBytes f)
@@ -49,7 +47,7 @@ writtenInto (w.Refused number) out = out
 -- bytes that are no message are 6, after a bad handed-in type
 abbrev pub heldWord : ℕ → Held → ℕ → ℕ
 heldWord kind (Holds a m) room = writtenWord (writing kind a m) room
-heldWord kind Nothing room = refusedWord (unless (among kind handedTypes) badType notListed)
+heldWord kind Nothing room = refusedWord (handedRefusal kind notListed)
 
 abbrev pub heldInto : ℕ → Held → List ℕ → List ℕ
 heldInto kind (Holds a m) out = writtenInto (writing kind a m) out

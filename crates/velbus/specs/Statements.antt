@@ -7,10 +7,10 @@ use Rattle.laws.specs.Limits.{AllBytes}
 use Rattle.laws.specs.Copies.{copiedIn}
 use Rattle.frame.specs.Bytes.{dataBytes}
 use Rattle.frame.specs.Reading.{reading}
-use Rattle.frame.specs.Writing.{writing}
-use Rattle.frame.specs.declared.reader.Reading.the-variants.{Read}
-use Rattle.frame.specs.declared.writer.Frame.{Frame}
-use Rattle.frame.specs.declared.writer.Writing.the-variants.{Written}
+use Rattle.codec.specs.Writing.{writing}
+use Rattle.frame.specs.declared.messages.Reading.the-variants.{Read}
+use Rattle.codec.specs.declared.writer.Frame.{Frame}
+use Rattle.codec.specs.declared.writer.Writing.the-variants.{Written}
 use Rattle.frame.specs.declared.identifiers.Address.{Address}
 use Rattle.frame.specs.declared.messages.Message.{Message}
 use Rattle.velbus.specs.declared.parts.Held.the-variants.{Holds}

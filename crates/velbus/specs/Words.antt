@@ -1,12 +1,12 @@
 -- The result word: bits 0 to 15 the value, bits 16 to 23 the refusal number. A refused word has value 0.
-use Prim.Native.Nat.{ℕ, _*_}
+use Prim.Native.Nat.{ℕ, _*_, _%_}
 use mathlib.Core.Bool.{cond}
 use lib.Dec.{leb}
 use Rattle.laws.specs.Refusals.{tooShort}
+use Rattle.laws.specs.Answers.{Numbers, value, refusal}
 use Rattle.places.specs.declared.answers.Outcome.{Outcome}
-use Rattle.places.specs.declared.answers.Outcome.the-variants as o
 use Rattle.places.specs.declared.answers.Answer.{Answer}
-use Rattle.places.specs.declared.answers.Answer.the-variants as a
+use Rattle.places.specs.Answers.{outcomeNumbers, answerNumbers}
 
 -- how many values there are
 abbrev pub values : ℕ
@@ -15,15 +15,20 @@ values = 65536
 abbrev pub refusedWord : ℕ → ℕ
 refusedWord number = values * number
 
--- done is the value 0
+-- of an answer in the paper's numbers
+abbrev pub word : Numbers → ℕ
+word (value v) = v % values
+word (refusal number) = refusedWord number
+
 abbrev pub outcomeWord : Outcome → ℕ
-outcomeWord o.Done = 0
-outcomeWord (o.Refused number) = refusedWord number
+outcomeWord o = word (outcomeNumbers o)
 
 abbrev pub answerWord : Answer → ℕ
-answerWord (a.Value value) = value
-answerWord (a.Refused number) = refusedWord number
+answerWord a = word (answerNumbers a)
 
 -- a call that fills `need` bytes of a buffer of `room` answers their number, or 13
+abbrev pub roomNumbers : ℕ → ℕ → Numbers
+roomNumbers room need = cond (leb need room) (value need) (refusal tooShort)
+
 abbrev pub roomWord : ℕ → ℕ → ℕ
-roomWord room need = cond (leb need room) need (refusedWord tooShort)
+roomWord room need = word (roomNumbers room need)

@@ -6,21 +6,19 @@ use crate::parts::Held;
 use crate::parts::parts_of;
 use crate::words::refused;
 use crate::words::room_word;
+use codec::Frame;
+use codec::Writing;
+use codec::handed_refusal;
 use frame::Address;
-use frame::Frame;
 use frame::Message;
 use frame::Reading;
-use frame::Writing;
-use frame::handed_type;
-use laws::BAD_TYPE;
 use laws::NOT_LISTED;
 use laws::TOO_SHORT;
 use laws::copy_in;
-use laws::unless;
 ghost use mathlib.Core.Path.{_≡_};
 ghost use lib.ListN.{length};
 ghost use Rattle.frame.specs.Reading.{reading};
-ghost use Rattle.frame.specs.Writing.{writing};
+ghost use Rattle.codec.specs.Writing.{writing};
 ghost use Rattle.laws.specs.Copies.{copiedIn};
 ghost use Rattle.velbus.specs.Words.{roomWord};
 ghost use Rattle.velbus.specs.Parts.{partsOf};
@@ -50,7 +48,7 @@ pub extern "C" fn velbus_read(
     ensures { λ r. ⌜ r ≡ readWord (reading kind identifier remote (now («data» .entry))) (length (now (message .entry))) ⌝ }
     ensures { λ _. ⌜ now (message .exit) ≡ readInto (reading kind identifier remote (now («data» .entry))) (now (message .entry)) ⌝ }
 {
-    match frame::read(kind, identifier, remote, data) {
+    match codec::read(kind, identifier, remote, data) {
         Reading::Read(a, m) => lay_message(message, a, m),
         Reading::Refused(number) => refused(number),
     }
@@ -91,7 +89,7 @@ fn write_message(kind: u32, a: Address, m: Message, out: &mut [u8]) -> u32
     ensures { λ r. ⌜ r ≡ writtenWord (writing kind a m) (length (now (out .entry))) ⌝ }
     ensures { λ _. ⌜ now (out .exit) ≡ writtenInto (writing kind a m) (now (out .entry)) ⌝ }
 {
-    match frame::write(kind, a, m) {
+    match codec::write(kind, a, m) {
         Writing::Written(f) => lay_frame(out, f),
         Writing::Refused(number) => refused(number),
     }
@@ -103,7 +101,7 @@ fn write_held(kind: u32, held: Held, out: &mut [u8]) -> u32
 {
     match held {
         Held::Holds(a, m) => write_message(kind, a, m, out),
-        Held::Nothing => refused(unless(handed_type(kind), BAD_TYPE, NOT_LISTED)),
+        Held::Nothing => refused(handed_refusal(kind, NOT_LISTED)),
     }
 }
 

@@ -1,6 +1,8 @@
 // The picture: hearing, stepping back and asking.
 use crate::words::answer_word;
 use crate::words::outcome_word;
+use questions::AddressAsked;
+use questions::LocationAsked;
 ghost use mathlib.Core.Path.{_≡_};
 ghost use mathlib.Core.List.{[]};
 ghost use Rattle.places.specs.Layout.{size};
@@ -61,42 +63,42 @@ pub extern "C" fn velbus_listed(picture: &[u8], out: &mut [u8]) -> u32
 pub extern "C" fn velbus_type(picture: &[u8], address: u32) -> u32
     ensures { λ r. ⌜ r ≡ answerWord (reply (now (picture .entry)) address type-of [] .answer) ⌝ }
 {
-    answer_word(questions::type_of(picture, address))
+    answer_word(questions::type_of(picture, AddressAsked(address)))
 }
 
 #[no_mangle]
 pub extern "C" fn velbus_build_year(picture: &[u8], address: u32) -> u32
     ensures { λ r. ⌜ r ≡ answerWord (reply (now (picture .entry)) address build-year [] .answer) ⌝ }
 {
-    answer_word(questions::build_year(picture, address))
+    answer_word(questions::build_year(picture, AddressAsked(address)))
 }
 
 #[no_mangle]
 pub extern "C" fn velbus_build_week(picture: &[u8], address: u32) -> u32
     ensures { λ r. ⌜ r ≡ answerWord (reply (now (picture .entry)) address build-week [] .answer) ⌝ }
 {
-    answer_word(questions::build_week(picture, address))
+    answer_word(questions::build_week(picture, AddressAsked(address)))
 }
 
 #[no_mangle]
 pub extern "C" fn velbus_cell(picture: &[u8], address: u32, location: u32) -> u32
     ensures { λ r. ⌜ r ≡ answerWord (reply (now (picture .entry)) address (cell location) [] .answer) ⌝ }
 {
-    answer_word(questions::cell(picture, address, location))
+    answer_word(questions::cell(picture, AddressAsked(address), LocationAsked(location)))
 }
 
 #[no_mangle]
 pub extern "C" fn velbus_led(picture: &[u8], address: u32, number: u32) -> u32
     ensures { λ r. ⌜ r ≡ answerWord (reply (now (picture .entry)) address (led number) [] .answer) ⌝ }
 {
-    answer_word(questions::led(picture, address, number))
+    answer_word(questions::led(picture, AddressAsked(address), number))
 }
 
 #[no_mangle]
 pub extern "C" fn velbus_blind(picture: &[u8], address: u32, number: u32) -> u32
     ensures { λ r. ⌜ r ≡ answerWord (reply (now (picture .entry)) address (blind number) [] .answer) ⌝ }
 {
-    answer_word(questions::blind(picture, address, number))
+    answer_word(questions::blind(picture, AddressAsked(address), number))
 }
 
 #[no_mangle]
@@ -104,7 +106,7 @@ pub extern "C" fn velbus_name_heard(picture: &[u8], address: u32, name: u32, out
     ensures { λ r. ⌜ r ≡ answerWord (reply (now (picture .entry)) address (name-heard name) (now (out .entry)) .answer) ⌝ }
     ensures { λ _. ⌜ now (out .exit) ≡ reply (now (picture .entry)) address (name-heard name) (now (out .entry)) .buffer ⌝ }
 {
-    answer_word(questions::name_heard(picture, address, name, out))
+    answer_word(questions::name_heard(picture, AddressAsked(address), name, out))
 }
 
 #[no_mangle]
@@ -112,7 +114,7 @@ pub extern "C" fn velbus_name(picture: &[u8], address: u32, name: u32, out: &mut
     ensures { λ r. ⌜ r ≡ answerWord (reply (now (picture .entry)) address (whole-name name) (now (out .entry)) .answer) ⌝ }
     ensures { λ _. ⌜ now (out .exit) ≡ reply (now (picture .entry)) address (whole-name name) (now (out .entry)) .buffer ⌝ }
 {
-    answer_word(questions::name(picture, address, name, out))
+    answer_word(questions::name(picture, AddressAsked(address), name, out))
 }
 
 #[no_mangle]
@@ -120,5 +122,5 @@ pub extern "C" fn velbus_memory_row(picture: &[u8], address: u32, out: &mut [u8]
     ensures { λ r. ⌜ r ≡ answerWord (reply (now (picture .entry)) address memory-bytes (now (out .entry)) .answer) ⌝ }
     ensures { λ _. ⌜ now (out .exit) ≡ reply (now (picture .entry)) address memory-bytes (now (out .entry)) .buffer ⌝ }
 {
-    answer_word(questions::memory_bytes(picture, address, out))
+    answer_word(questions::memory_bytes(picture, AddressAsked(address), out))
 }

@@ -2,6 +2,7 @@
 use laws::TOO_SHORT;
 use laws::wide32;
 use places::Answer;
+use places::NOT_HEARD;
 use places::Outcome;
 ghost use mathlib.Core.Path.{_≡_};
 ghost use Rattle.velbus.specs.Words.{refusedWord, outcomeWord, answerWord, roomWord};
@@ -26,6 +27,7 @@ pub fn answer_word(answer: Answer) -> u32
 {
     match answer {
         Answer::Value(value) => value as u32,
+        Answer::NotHeard => NOT_HEARD as u32,
         Answer::Refused(number) => refused(number),
     }
 }

@@ -8,11 +8,11 @@ use Rattle.listing.proofs.hear_input.Statement.{statement}
 use Rattle.listing.proofs.hear_input.Tie as tie
 
 abbrev Inv-loop : tie.InvT-loop
-Inv-loop picture₀ window₀ stream₀ turns₀ going₀ failed₀ picture window stream turns going failed =
+Inv-loop picture₀ window₀ stream₀ turns₀ going₀ read₀ room₀ picture window stream turns going read room =
     (length picture ≡ length picture₀) × (length window ≡ length window₀)
 
 abbrev μ-loop : tie.MeasureT-loop
-μ-loop picture₀ window₀ stream₀ turns₀ going₀ failed₀ picture window stream turns going failed = turns
+μ-loop picture₀ window₀ stream₀ turns₀ going₀ read₀ room₀ picture window stream turns going read room = turns
 
 pub hear-input-spec : {M : Type 1} → statement M
 hear-input-spec =
@@ -27,7 +27,12 @@ hear-input-spec =
     (λ c κs. search needs)
     (λ c. search needs)
     (λ c. search needs)
+    (λ c. search needs)
+    (λ c. search needs)
     (λ c. (omega arith, omega arith))
+    (λ c. search needs)
+    (λ c. search needs)
+    (λ c. search needs)
     (λ c. search needs)
     (λ c. search needs)
     (λ c. search needs)

@@ -5,22 +5,22 @@ use borrow.Author.Needs.{needs}
 use Rattle.frame.proofs.commands.row_refusal.Statement.{statement}
 use Rattle.frame.proofs.commands.row_refusal.Tie as tie
 
-requires-1 : tie.Need-judged-requires
+requires-1 : tie.Need-refusal-by-row-requires
 requires-1 c κs = sym (c .match .keys1) ∙ c .before .byte-at .ensures
 
-requires-2 : tie.Need-judged-requires-2
+requires-2 : tie.Need-refusal-by-row-requires-2
 requires-2 c κs = sym (c .match .keys2) ∙ c .before .byte-at .ensures
 
-requires-3 : tie.Need-judged-requires-3
+requires-3 : tie.Need-refusal-by-row-requires-3
 requires-3 c κs = sym (c .match .keys3) ∙ c .before .byte-at .ensures
 
-requires-4 : tie.Need-judged-requires-4
+requires-4 : tie.Need-refusal-by-row-requires-4
 requires-4 c κs = sym (c .match .keys4) ∙ c .before .byte-at .ensures
 
-requires-5 : tie.Need-judged-requires-5
+requires-5 : tie.Need-refusal-by-row-requires-5
 requires-5 c κs = sym (c .match .keys5) ∙ c .before .byte-at .ensures
 
-requires-6 : tie.Need-judged-requires-6
+requires-6 : tie.Need-refusal-by-row-requires-6
 requires-6 c κs = c .before .byte-at .ensures
 
 pub row-refusal-spec : {M : Type 1} → statement M
@@ -34,9 +34,9 @@ row-refusal-spec =
     requires-4
     requires-5
     requires-6
-    (λ c. c .judged .ensures)
-    (λ c. c .judged2 .ensures)
-    (λ c. c .judged3 .ensures)
-    (λ c. c .judged4 .ensures)
-    (λ c. c .judged5 .ensures)
-    (λ c. c .judged6 .ensures))
+    (λ c. c .refusal-by-row .ensures)
+    (λ c. c .refusal-by-row2 .ensures)
+    (λ c. c .refusal-by-row3 .ensures)
+    (λ c. c .refusal-by-row4 .ensures)
+    (λ c. c .refusal-by-row5 .ensures)
+    (λ c. c .refusal-by-row6 .ensures))

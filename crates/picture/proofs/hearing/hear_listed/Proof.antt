@@ -1,12 +1,11 @@
 -- `picture::hearing::hear_listed` meets its contract. Assumes nothing.
-use mathlib.Core.Path.{sym, ap, _∙_}
+use mathlib.Core.Path.{sym, _∙_}
 use borrow.Author.Tests.{lt-ltb}
 use borrow.Author.Needs.{needs}
 use Rattle.frame.specs.Bytes.{byte}
-use Rattle.frame.specs.declared.identifiers.Address.{Address}
 use Rattle.picture.specs.Hearing.{naming, hearingAs}
-use Rattle.picture.proofs.Meant.{NotType, not-type, names-run, type-by}
-use Rattle.picture.proofs.Heard.{heard-refused, heard-request, heard-command, fits-heard, row-heard, type-fits}
+use Rattle.picture.proofs.Meant.{NotType, not-type, names-run}
+use Rattle.picture.proofs.Heard.{heard-refused, heard-request, heard-command, entry-bytes, entry-answer, fits-heard, row-heard, type-fits}
 use Rattle.picture.proofs.hearing.hear_listed.Statement.{statement}
 use Rattle.picture.proofs.hearing.hear_listed.Tie as tie
 
@@ -30,6 +29,13 @@ returns-2 c =
     let l = lt-ltb _ _ (s .pre .1) in
     (rw h, rw (h, l) (c .before .before .pass .ensures))
 
+-- by what is known there, whatever stands on the way: the bytes, then the answer
+bytes-first : {A B : Type 0} → B → A → A × B
+bytes-first b a = (a, b)
+
+returns-3 : tie.Need-returns-3
+returns-3 c = bytes-first (search entry-bytes) (search entry-answer)
+
 hear-type-requires : tie.Need-hear-type-requires
 hear-type-requires c κs =
     let s = c .before .before .before .before .before .before .before .before .before .before .before .before in
@@ -38,18 +44,6 @@ hear-type-requires c κs =
     let n = c .before .before .before .before .before .before .refusal .ensures in
     let t = type-fits (s .args .picture .now) (s .args .slot) (s .args .identifier) (s .args .remote) (s .args .«data» .now) k w n (c .before .before .before .before .before .if1 .left) (c .before .before .before .before .if2 .left) (sym (c .before .before .before .byte-at .ensures) ∙ c .before .before .if3 .taken) in
     ((s .pre .0, t .0), t .1)
-
-returns-3 : tie.Need-returns-3
-returns-3 c =
-    let s = c .before .before .before .before .before .before .before .before .before .before .before .before .before .before .before in
-    let k = c .before .before .before .before .before .before .before .before .before .before .before .kind-in .ensures in
-    let w = c .before .before .before .before .before .before .before .before .before .before .wide32 .ensures in
-    let n = c .before .before .before .before .before .before .before .before .before .refusal .ensures in
-    let h = heard-command (s .args .picture .now) (s .args .slot) (s .args .identifier) (s .args .remote) (s .args .«data» .now) k w n (c .before .before .before .before .before .before .before .before .if1 .left) (c .before .before .before .before .before .before .before .if2 .left) in
-    let t = type-by (s .args .«data» .now) (c .before .before .before .before .before .before .byte-at .ensures) (c .before .before .before .before .before .if3 .taken) in
-    let e = c .before .before .hear-type .ensures in
-    let a = ap (λ (x : Address). x .0) (c .before .before .before .address-of .ensures) in
-    (rw (h, t, ← a) (e .0), rw (h, t, ← a) (e .1))
 
 tell-command-requires : tie.Need-tell-command-requires
 tell-command-requires c κs =

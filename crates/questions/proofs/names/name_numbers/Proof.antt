@@ -2,7 +2,7 @@
 use mathlib.Core.Path.{sym, _∙_}
 use borrow.Author.Tests.{lt-ltb, le-ltb}
 use Rattle.places.specs.Places.{nameRow}
-use Rattle.questions.specs.Replies.{nameNumbers}
+use Rattle.questions.specs.Replies.{nameRefusal, nameNumbers}
 use Rattle.questions.proofs.Extents.{few-names}
 use Rattle.questions.proofs.Filling.{row-numbers}
 use borrow.Author.Needs.{needs}
@@ -11,11 +11,11 @@ use Rattle.questions.proofs.names.name_numbers.Statement.{statement}
 use Rattle.questions.proofs.names.name_numbers.Tie as tie
 
 returns : tie.Need-returns
-unfolding nameNumbers
+unfolding nameRefusal nameNumbers
 returns c = let short = lt-ltb _ _ (c .if1 .taken) in (rw short, rw short)
 
 returns-2 : tie.Need-returns-2
-unfolding nameNumbers
+unfolding nameRefusal nameNumbers
 returns-2 c = let long = le-ltb _ _ (c .before .before .if1 .left) in
     let none = rw (c .before .slot-asked .ensures) at (le-ltb _ _ (c .if2 .taken)) in
     (rw (long, none), rw (long, none))
@@ -30,7 +30,7 @@ fill-numbers-requires c κs =
     omega (arith, few-names (has .before .kind-in .result) name (sym (has .has-name .ensures) ∙ c .before .before .before .if3 .taken))
 
 returns-3 : tie.Need-returns-3
-unfolding nameNumbers
+unfolding nameRefusal nameNumbers
 returns-3 c =
     let a = c .before .before .before .before .before .before .before .before .before .before .before .args in
     let slot = c .before .before .before .before .before .before .before .before .slot-asked in
@@ -43,7 +43,7 @@ returns-3 c =
     (rw (long, ← slot .ensures, ← kind .ensures, listed, has), rw (long, ← slot .ensures, ← kind .ensures, listed, has) row)
 
 returns-4 : tie.Need-returns-4
-unfolding nameNumbers
+unfolding nameRefusal nameNumbers
 returns-4 c =
     let slot = c .before .before .before .before .slot-asked in
     let kind = c .before .before .kind-in in

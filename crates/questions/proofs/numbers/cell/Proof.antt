@@ -8,13 +8,13 @@ use Rattle.questions.proofs.numbers.cell.Statement.{statement}
 use Rattle.questions.proofs.numbers.cell.Tie as tie
 
 returns : tie.Need-returns
-returns c = both-of (short-refused _ _ (cell (c .before .before .args .location)) [] (c .if1 .taken)) .0
+returns c = both-of (short-refused _ _ (cell (c .before .before .args .location .0)) [] (c .if1 .taken)) .0
 
 returns-2 : tie.Need-returns-2
 unfolding replyAs
 returns-2 c =
     let slot = c .before .before .before in
-    number-by _ _ (cell (slot .before .before .before .args .location)) [] (slot .before .if1 .left) (slot .slot-asked .ensures) _
+    number-by _ _ (cell (slot .before .before .before .args .location .0)) [] (slot .before .if1 .left) (slot .slot-asked .ensures) _
     (rw (← c .before .before .kind-in .ensures, ← c .before .cell-asked .ensures))
     (c .number-in .ensures)
 

@@ -7,7 +7,7 @@ use Rattle.questions.proofs.numbers.place_in.Tie as tie
 
 returns : tie.Need-returns
 unfolding placeReply
-returns c = rw (lt-ltb _ _ (c .before .before .if1 .taken), ← c .before .place-at .ensures, ← c .number-at .ensures)
+returns c = rw (lt-ltb _ _ (c .before .before .if1 .taken), ← c .before .place-at .ensures, ← c .answer-at .ensures)
 
 returns-2 : tie.Need-returns-2
 unfolding placeReply

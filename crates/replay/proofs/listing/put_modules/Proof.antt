@@ -9,7 +9,7 @@ use Rattle.places.specs.Limits.{addresses}
 use Rattle.replay.specs.Text.{Written}
 use Rattle.replay.specs.Listing.{modulesText}
 use Rattle.replay.proofs.Texts.{followed, nothing}
-use Rattle.replay.proofs.Listings.{modules-none, modules-more}
+use Rattle.replay.proofs.Listings.{modules-none, modules-more, module-room}
 use Rattle.replay.proofs.listing.put_modules.Statement.{statement}
 use Rattle.replay.proofs.listing.put_modules.Tie as tie
 
@@ -22,13 +22,19 @@ abbrev μ-loop : tie.MeasureT-loop
 
 loop-holds : tie.Need-loop-holds Inv-loop μ-loop
 loop-holds c =
-    let a = c .before .before .before .args in
-    (omega arith, refl, nothing (a .out .now) (a .at) (c .clip .result) (modulesText (a .picture .now) 0) (modules-none (a .picture .now)) (c .clip .ensures))
+    let a = c .before .before .args in
+    (omega arith, refl, nothing (a .out .now) (a .at) (modulesText (a .picture .now) 0) (modules-none (a .picture .now)))
+
+put-module-requires : tie.Need-put-module-requires Inv-loop μ-loop
+put-module-requires c κs =
+    let l = c .before .before .loop in
+    let s = c .before .before .before .before .before in
+    module-room (s .args .picture .now) (l .address) (omega arith) (l .inv .2) (s .pre)
 
 loop-again : tie.Need-loop-again Inv-loop μ-loop
 loop-again c =
     let l = c .before .before .before .before .before .loop in
-    let a = c .before .before .before .before .before .before .before .before .before .args in
+    let a = c .before .before .before .before .before .before .before .before .args in
     let p = c .before .before .put-module in (
       omega arith,
       omega arith,
@@ -38,7 +44,7 @@ loop-again c =
 returns : tie.Need-returns Inv-loop μ-loop
 returns c =
     let l = c .before .loop in
-    let a = c .before .before .before .before .before .args in
+    let a = c .before .before .before .before .args in
     let e : l .address ≡ addresses = omega arith in
     subst (λ (n : ℕ). Written (a .out .now) (a .at) (modulesText (a .picture .now) n) (l .out) (l .next)) e (l .inv .2)
 
@@ -48,9 +54,8 @@ put-modules-spec =
     (tie.spec
     Inv-loop
     μ-loop
-    (λ c κs. search needs)
     loop-holds
-    (λ c κs. search needs)
+    put-module-requires
     (λ c. search needs)
     (λ c. search needs)
     loop-again

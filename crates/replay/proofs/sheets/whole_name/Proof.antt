@@ -15,6 +15,11 @@ returns-2 : tie.Need-returns-2
 unfolding wholeName
 returns-2 c = ap (λ (r : Answer). one (isValue r)) (sym (c .enum-told2 .given .1) ∙ c .before .before .before .name .ensures .0)
 
+returns-3 : tie.Need-returns-3
+unfolding wholeName
+returns-3 c = ap (λ (r : Answer). one (isValue r)) (sym (c .enum-told3 .given .1) ∙ c .before .before .before .name .ensures .0)
+
 pub whole-name-spec : {M : Type 1} → statement M
 whole-name-spec =
-    tie.close (tie.spec (λ c. search needs) (λ c κs. search needs) (λ c. search needs) (λ c. search needs) returns returns-2)
+    tie.close
+    (tie.spec (λ c. search needs) (λ c κs. search needs) (λ c. search needs) (λ c. search needs) (λ c. search needs) returns returns-2 returns-3)

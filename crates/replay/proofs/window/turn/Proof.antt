@@ -13,12 +13,12 @@ use Rattle.replay.proofs.window.turn.Statement.{statement}
 use Rattle.replay.proofs.window.turn.Tie as tie
 
 -- the records were read up to the last byte that is filled, or before
-inside : (n : tie.After-hear-all) → n .hear-all .result .at ≤ n .before .before .before .before .before .before .args .filled
+inside : (n : tie.After-hear-records) → n .hear-records .result .at ≤ n .before .before .before .before .before .before .args .filled
 inside n =
     let w = n .before .before .before .before .before .before .args .window .now in
     let k = n .before .before .before .before .before .before .args .filled in
     let long : length (take (k - 0) w) ≡ k - 0 = length-take-le (k - 0) w (omega (arith, n .before .before .before .before .before .before .pre)) in
-    let h : n .hear-all .result .at ≤ length (take (k - 0) w) = rw (n .hear-all .ensures .0) (stops-inside heardBy (n .before .before .before .before .before .before .args .picture .now) (take (k - 0) w)) in
+    let h : n .hear-records .result .at ≤ length (take (k - 0) w) = rw (n .hear-records .ensures .0) (stops-inside heardBy (n .before .before .before .before .before .before .args .picture .now) (take (k - 0) w)) in
     omega arith
 
 shift-requires : tie.Need-shift-requires
@@ -27,7 +27,7 @@ shift-requires c κs = (omega (arith, inside (c .before .before .before)), omega
 returns : tie.Need-returns
 returns c =
     let a = c .before .before .before .before .before .before .before .before .before .before .before .before .args in
-    let h = c .before .before .before .before .before .before .hear-all in
+    let h = c .before .before .before .before .before .before .hear-records in
     let w = a .window .now in
     let same : take (a .filled - 0) w ≡ take (a .filled) w = ap (λ (n : ℕ). take n w) (sub-zero (a .filled)) in (
       h .ensures .0 ∙ ap (λ (l : List ℕ). replayed heardBy (a .picture .now) l .replay) same,

@@ -8,7 +8,7 @@ returns : tie.Need-returns
 returns c = rw (c .before .before .before .before .before .held .given .1) (c .before .before .write-message .ensures .0, c .before .before .write-message .ensures .1)
 
 returns-2 : tie.Need-returns-2
-returns-2 c = rw (c .before .before .before .enum-told .given .1, ← c .before .before .handed-type .ensures, ← c .before .unless .ensures) (c .refused .ensures, refl)
+returns-2 c = rw (c .before .before .enum-told .given .1, ← c .before .handed-refusal .ensures) (c .refused .ensures, refl)
 
 pub write-held-spec : {M : Type 1} → statement M
 write-held-spec =
@@ -17,7 +17,6 @@ write-held-spec =
     (λ c. search needs)
     (λ c κs. search needs)
     (λ c. search needs)
-    (λ c κs. search needs)
     (λ c κs. search needs)
     (λ c κs. search needs)
     (λ c. search needs)

@@ -1,0 +1,5 @@
+pub mod Shapes
+pub mod Lawful
+pub mod Accepted
+pub mod RoundTrip
+pub mod Everything

@@ -1,0 +1,46 @@
+// Which fields of a message are allowed, by the module's type: the rules that the reader goes by too.
+use frame::Command;
+use frame::blind_status_fault;
+use frame::block_fault;
+use frame::buttons_fault;
+use frame::cell_fault;
+use frame::channel_fault;
+use frame::last_part_fault;
+use frame::status_asked_fault;
+use frame::stop_fault;
+use frame::timed_fault;
+use frame::type_short_fault;
+ghost use mathlib.Core.Path.{_≡_};
+ghost use Rattle.frame.specs.Fields.{fault};
+
+// The number of the first data byte at fault; 0 where every field is allowed.
+pub fn fault_of(kind: u32, m: Command) -> u8
+    ensures { λ r. ⌜ r ≡ fault kind m ⌝ }
+{
+    match m {
+        Command::TypeLong(_, _, _, _, _, _) => 0,
+        Command::TypeShort(_, timeout, _, _) => type_short_fault(timeout),
+        Command::Buttons(a, b, c) => buttons_fault(kind, a, b, c),
+        Command::CellTold(l, _) => cell_fault(kind, l),
+        Command::BlockTold(l, _, _, _, _) => block_fault(kind, l),
+        Command::CellAsked(l) => cell_fault(kind, l),
+        Command::BlockAsked(l) => block_fault(kind, l),
+        Command::DumpAsked => 0,
+        Command::CellSet(l, _) => cell_fault(kind, l),
+        Command::BlockSet(l, _, _, _, _) => block_fault(kind, l),
+        Command::Errors(_, _, _) => 0,
+        Command::ErrorsAsked => 0,
+        Command::NameOne(n, _, _, _, _, _, _) => channel_fault(kind, n),
+        Command::NameTwo(n, _, _, _, _, _, _) => channel_fault(kind, n),
+        Command::NameThree(n, _, _, _, last) => last_part_fault(kind, n, last),
+        Command::NameAsked(n) => channel_fault(kind, n),
+        Command::StatusAsked(n) => status_asked_fault(kind, n),
+        Command::InputStatus(_, _, _, _) => 0,
+        Command::LedsAll(_, _, _) => 0,
+        Command::Leds(_, _) => 0,
+        Command::BlindStatus(n, a, b, c, _, _, _) => blind_status_fault(kind, n, a, b, c),
+        Command::BlindStop(n) => stop_fault(kind, n),
+        Command::BlindUp(n, t) => timed_fault(kind, n, t),
+        Command::BlindDown(n, t) => timed_fault(kind, n, t),
+    }
+}

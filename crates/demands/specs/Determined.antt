@@ -1,0 +1,54 @@
+-- A promise leaves a function no choice: two results that satisfy it are equal. Once for each public function that is lent a buffer: its contract is that
+-- the answer and the buffer's final contents are these definitions'. The proof is proofs/Determined.antt.
+use Prim.Native.Nat.{ℕ}
+use mathlib.Core.List.{List}
+use lib.ListN.{length, set}
+use Rattle.laws.specs.Copies.{copiedIn}
+use Rattle.laws.specs.Promises.{OneAnswer, OneResult, OneOutcome, NoChoice}
+use Rattle.frame.specs.Reading.{reading}
+use Rattle.places.specs.Result.{Result}
+use Rattle.picture.specs.Hearing.{hearing}
+use Rattle.picture.specs.Stepping.{steppingBack}
+use Rattle.picture.specs.Fresh.{freshening}
+use Rattle.questions.specs.Question.{Question, Reply}
+use Rattle.questions.specs.Replies.{listing, reply}
+use Rattle.recording.specs.Write.{putAnswer, putBytes}
+use Rattle.replay.specs.declared.window.Stream.{Stream}
+use Rattle.replay.specs.Replay.{replayAnswer, replayPicture}
+use Rattle.replay.specs.Window.{partAnswer, partPicture, partWindow}
+use Rattle.replay.specs.Listing.{listingAnswer, listingBytes}
+use Rattle.velbus.specs.Words.{outcomeWord, answerWord}
+use Rattle.velbus.specs.Recordings.{putWord}
+use Rattle.velbus.specs.Frames.{readWord, readInto, writeWord, writeInto}
+
+-- a call on a picture, and a question that fills; and the same from C, with a word for the answer
+abbrev pub OneCall : Result → Type 0
+OneCall r = OneResult (r .outcome) (r .buffer) × OneResult (outcomeWord (r .outcome)) (r .buffer)
+
+abbrev pub OneReply : Reply → Type 0
+OneReply r = OneResult (r .answer) (r .buffer) × OneResult (answerWord (r .answer)) (r .buffer)
+
+pub record Determined : Type 1 where
+  -- whatever the definitions are
+  pub no-choice : NoChoice
+  -- laws: copy_in; places: put_at
+  pub copy-in : (out : List ℕ) (at : ℕ) (bytes : List ℕ) → OneAnswer (copiedIn out at bytes)
+  pub put-at : (s : List ℕ) (i v : ℕ) → OneAnswer (set s i v)
+  -- fresh, hear, step_back
+  pub fresh : (b : List ℕ) → OneCall (freshening b)
+  pub hear : (b : List ℕ) (identifier remote : ℕ) (s : List ℕ) → OneCall (hearing b identifier remote s)
+  pub step-back : (b : List ℕ) → OneCall (steppingBack b)
+  -- listed, and every question on an address: name_heard, name, memory_row, memory_bytes
+  pub listed : (b out : List ℕ) → OneReply (listing b out)
+  pub each : (b : List ℕ) (a : ℕ) (q : Question) (out : List ℕ) → OneReply (reply b a q out)
+  -- put_record, hear_all, hear_part, put_listing
+  pub put-record : (b : List ℕ) (at gap identifier remote : ℕ) (ds : List ℕ)
+      → OneResult (putAnswer b at gap identifier remote ds) (putBytes b at gap identifier remote ds)
+      × OneResult (putWord (putAnswer b at gap identifier remote ds)) (putBytes b at gap identifier remote ds)
+  pub hear-all : (b s : List ℕ) → OneResult (replayAnswer b s) (replayPicture b s)
+  pub hear-part : (b w : List ℕ) (st : Stream) (n : ℕ) → OneOutcome (partAnswer b w st n) (partPicture b w st n) (partWindow b w st n)
+  pub put-listing : (b out : List ℕ) (st : Stream) → OneResult (listingAnswer b out st) (listingBytes b out st)
+  -- velbus_read, velbus_write
+  pub read : (kind identifier remote : ℕ) (s out : List ℕ)
+      → OneResult (readWord (reading kind identifier remote s) (length out)) (readInto (reading kind identifier remote s) out)
+  pub write : (kind : ℕ) (message out : List ℕ) → OneResult (writeWord kind message (length out)) (writeInto kind message out)

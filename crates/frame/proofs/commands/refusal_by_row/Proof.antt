@@ -1,0 +1,24 @@
+-- `frame::commands::refusal_by_row` meets its contract.
+-- Assumes nothing.
+use Rattle.frame.specs.Bytes.{dataOf, bytesOf}
+use Rattle.frame.specs.Messages.{decode}
+use Rattle.frame.proofs.Faults.{misfitted, fitted}
+use borrow.Author.Needs.{needs}
+use Rattle.frame.proofs.commands.refusal_by_row.Statement.{statement}
+use Rattle.frame.proofs.commands.refusal_by_row.Tie as tie
+
+returns : tie.Need-returns
+returns c = let s = c .before .before .before in let d = dataOf (s .args .«data» .now) in misfitted (s .args .own) (s .args .priority) d (decode (bytesOf d)) (s .pre) (c .before .misfit .ensures) (c .if1 .taken)
+
+returns-2 : tie.Need-returns-2
+returns-2 c = let s = c .before .before .before .before .before in let d = dataOf (s .args .«data» .now) in fitted (s .args .own) (s .args .priority) d (decode (bytesOf d)) (s .pre) (c .before .before .before .misfit .ensures) (c .before .before .if1 .left) (c .field-refusal .ensures) (c .before .fault-in .ensures)
+
+pub refusal-by-row-spec : {M : Type 1} → statement M
+refusal-by-row-spec =
+    tie.close
+    (tie.spec
+    (λ c κs. search needs)
+    returns
+    (λ c κs. c .before .before .before .pre)
+    (λ c κs. search needs)
+    returns-2)
