@@ -6,8 +6,8 @@
  *
  *     654 0 FF 0A 12 34 01 0C 05
  *
- * Empty lines and lines that begin with # are passed over. Refused frames are told on standard error.
- * Whatever was not heard is shown as `--` or `not heard`, and never as a value. */
+ * Empty lines and lines that begin with # are passed over; a FILE of - is standard input. Refusals are told in words, on standard
+ * error. Whatever was not heard is shown as `not heard`, or as `--` among cells that were, and never as a value. */
 #include "velbus.h"
 
 #include <ctype.h>
@@ -16,17 +16,55 @@
 #include <stdlib.h>
 #include <string.h>
 
+enum {
+    LONGEST_LINE = 256,                 /* characters of a line of the file, with its end */
+    MOST_BYTES = 2 * VELBUS_DATA_SIZE,  /* of a line; more than a frame has, so that the library is the one to refuse them */
+    CELLS_IN_LINE = 16                  /* of the sheet */
+};
+
 static uint8_t picture[VELBUS_PICTURE_SIZE];
+
+/* ---- refusals ---- */
 
 static const char *refusal_text(uint32_t number)
 {
     static const char *const texts[] = {
-        "accepted", "identifier not allowed", "frame badly formed", "priority not allowed", "module type not known here",
-        "type of the address not known", "command not in the type's list", "wrong length", "wrong priority",
-        "field not allowed", "no room for a seventeenth module",
+        [VELBUS_BAD_IDENTIFIER] = "identifier above 2047, or SID0 is 1",
+        [VELBUS_BAD_FORM] = "frame badly formed",
+        [VELBUS_BAD_PRIORITY] = "neither high nor low priority",
+        [VELBUS_BAD_TYPE] = "module type not known here",
+        [VELBUS_TYPE_NOT_KNOWN] = "type of the address not known",
+        [VELBUS_NOT_LISTED] = "command not in the type's list",
+        [VELBUS_WRONG_LENGTH] = "length not the command's",
+        [VELBUS_WRONG_PRIORITY] = "priority not the command's",
+        [VELBUS_BAD_FIELD] = "field not allowed",
+        [VELBUS_NO_ROOM] = "no room for another module",
+        [VELBUS_NOTHING_KEPT] = "no step back is kept",
+        [VELBUS_NO_SUCH_PLACE] = "no such cell, name, LED or blind on this type",
+        [VELBUS_TOO_SHORT] = "buffer too short, or a place beyond its end",
+        [VELBUS_NAME_NOT_WHOLE] = "name not whole",
+        [VELBUS_CUT_OFF] = "recording ends inside a record",
+        [VELBUS_BAD_NUMBER] = "recording number too long, too large or not shortest",
     };
-    return number < sizeof texts / sizeof texts[0] ? texts[number] : "refused";
+    return number < sizeof texts / sizeof texts[0] && texts[number] ? texts[number] : "a number without words here";
 }
+
+/* Tells a refusal on standard error; whether there was one. */
+static int refused(const char *what, uint32_t word)
+{
+    uint32_t number = velbus_refusal(word);
+    if (number)
+        fprintf(stderr, "%s: refused %u, %s\n", what, number, refusal_text(number));
+    return number != 0;
+}
+
+/* Whether the type has no such place, which ends a list of them; any other refusal ends it too, and is told. */
+static int past_last(const char *what, uint32_t word)
+{
+    return velbus_refusal(word) == VELBUS_NO_SUCH_PLACE || refused(what, word);
+}
+
+/* ---- hearing ---- */
 
 /* Reads a frame's numbers; the count of numbers, or -1 where the line is none. */
 static int parse(const char *line, unsigned long *numbers, int most)
@@ -40,108 +78,166 @@ static int parse(const char *line, unsigned long *numbers, int most)
             return n;
         errno = 0;
         unsigned long value = strtoul(line, &end, 16);
-        if (end == line || errno || (*end != '\0' && !isspace((unsigned char)*end)) || n == most || value > 0xFFFFFFFFul)
+        if (end == line || errno || (*end != '\0' && !isspace((unsigned char)*end)) || n == most || value > UINT32_MAX)
             return -1;
         numbers[n++] = value;
         line = end;
     }
 }
 
+/* Hears the frame of a line; 0 where the line is one. `where` names the line. */
+static int hear_line(const char *where, const char *line)
+{
+    unsigned long v[2 + MOST_BYTES];
+    uint8_t data[MOST_BYTES];
+    int n = parse(line, v, 2 + MOST_BYTES);
+    int bad = n < 2;
+    for (int i = 2; i < n; i++) {
+        bad |= v[i] > 0xFF;
+        data[i - 2] = (uint8_t)v[i];
+    }
+    if (bad)
+        fprintf(stderr, "%s: not a frame\n", where);
+    else
+        refused(where, velbus_hear(picture, sizeof picture, (uint32_t)v[0], (uint32_t)v[1], data, (size_t)(n - 2)));
+    return bad;
+}
+
 /* Hears every line; 0 where the file could be read to its end. */
 static int hear_file(FILE *file)
 {
-    char line[256];
+    char line[LONGEST_LINE], where[32];
     for (unsigned number = 1; fgets(line, sizeof line, file); number++) {
-        unsigned long v[2 + 16];
-        uint8_t data[16];
-        if (line[0] == '#' || line[strspn(line, " \t\r\n")] == '\0')
-            continue;
-        int n = parse(line, v, (int)(sizeof v / sizeof v[0]));
-        int bad = n < 2;
-        for (int i = 2; i < n; i++) {
-            bad |= v[i] > 0xFF;
-            data[i - 2] = (uint8_t)v[i];
-        }
-        if (bad) {
-            fprintf(stderr, "line %u: not a frame\n", number);
+        snprintf(where, sizeof where, "line %u", number);
+        if (!strchr(line, '\n') && !feof(file)) {
+            fprintf(stderr, "%s: too long\n", where);
             return 1;
         }
-        uint32_t word = velbus_hear(picture, sizeof picture, (uint32_t)v[0], (uint32_t)v[1], data, (size_t)(n - 2));
-        if (velbus_refusal(word))
-            fprintf(stderr, "line %u: refused %u, %s\n", number, velbus_refusal(word), refusal_text(velbus_refusal(word)));
+        if (line[0] == '#' || line[strspn(line, " \t\r\n")] == '\0')
+            continue;
+        if (hear_line(where, line))
+            return 1;
     }
     return ferror(file);
 }
 
+/* ---- the sheet ---- */
+
 static void print_number(const char *name, uint32_t word)
 {
+    if (refused(name, word))
+        return;
     if (velbus_value(word) == VELBUS_UNKNOWN)
         printf("%s not heard", name);
     else
         printf("%s %u", name, velbus_value(word));
 }
 
+static void print_name(uint32_t address, uint32_t name, unsigned characters_heard)
+{
+    uint8_t text[VELBUS_NAME_SIZE];
+    if (characters_heard == 0) {
+        printf("not heard\n");
+    } else if (characters_heard < VELBUS_NAME_SIZE) {
+        printf("not whole: %u of %u characters heard\n", characters_heard, VELBUS_NAME_SIZE);
+    } else {
+        if (!refused("name", velbus_name(picture, sizeof picture, address, name, text, sizeof text)))
+            for (unsigned i = 0; i < VELBUS_NAME_SIZE && text[i] != 0xFF; i++)
+                putchar(isprint(text[i]) ? text[i] : '?');
+        putchar('\n');
+    }
+}
+
 static void print_names(uint32_t address)
 {
+    uint8_t heard[VELBUS_NAME_SIZE];
     for (uint32_t name = 1;; name++) {
-        uint8_t heard[VELBUS_NAME_SIZE], text[VELBUS_NAME_SIZE];
-        uint32_t word = velbus_name_heard(picture, sizeof picture, address, name, heard, sizeof heard);
-        if (velbus_refusal(word))
-            return; /* no such name */
         unsigned count = 0;
+        if (past_last("name", velbus_name_heard(picture, sizeof picture, address, name, heard, sizeof heard)))
+            return;
         for (unsigned i = 0; i < VELBUS_NAME_SIZE; i++)
             count += heard[i];
         printf("name %u   ", name);
-        if (count == 0) {
-            printf("not heard\n");
-        } else if (velbus_refusal(velbus_name(picture, sizeof picture, address, name, text, sizeof text))) {
-            printf("%u of %u characters heard, not whole\n", count, VELBUS_NAME_SIZE);
-        } else {
-            for (unsigned i = 0; i < VELBUS_NAME_SIZE && text[i] != 0xFF; i++)
-                putchar(isprint(text[i]) ? text[i] : '?');
-            putchar('\n');
-        }
+        print_name(address, name, count);
     }
 }
 
 static void print_states(uint32_t address)
 {
-    static const char *const leds[] = {"off", "on", "slow", "fast", "very fast"};
-    static const char *const blinds[] = {"off", "up", "down"};
+    static const char *const leds[] = {[VELBUS_LED_OFF] = "off", [VELBUS_LED_ON] = "on", [VELBUS_LED_SLOW] = "slow",
+                                       [VELBUS_LED_FAST] = "fast", [VELBUS_LED_VERY_FAST] = "very fast"};
+    static const char *const blinds[] = {[VELBUS_BLIND_OFF] = "off", [VELBUS_BLIND_UP] = "up", [VELBUS_BLIND_DOWN] = "down"};
     uint32_t word;
-    for (uint32_t n = 1; !velbus_refusal(word = velbus_led(picture, sizeof picture, address, n)); n++)
+    for (uint32_t n = 1; !past_last("LED", word = velbus_led(picture, sizeof picture, address, n)); n++)
         printf("LED %u    %s\n", n, velbus_value(word) == VELBUS_UNKNOWN ? "not heard" : leds[velbus_value(word)]);
-    for (uint32_t n = 1; !velbus_refusal(word = velbus_blind(picture, sizeof picture, address, n)); n++)
+    for (uint32_t n = 1; !past_last("blind", word = velbus_blind(picture, sizeof picture, address, n)); n++)
         printf("blind %u  %s\n", n, velbus_value(word) == VELBUS_UNKNOWN ? "not heard" : blinds[velbus_value(word)]);
+}
+
+/* A cell of a memory row, or VELBUS_UNKNOWN. */
+static unsigned cell_of(const uint8_t *row, uint32_t location)
+{
+    return row[2 * location] | (unsigned)row[2 * location + 1] << 8;
+}
+
+static uint32_t heard_from(const uint8_t *row, uint32_t start, uint32_t end)
+{
+    uint32_t heard = 0;
+    for (uint32_t i = start; i < end; i++)
+        heard += cell_of(row, i) != VELBUS_UNKNOWN;
+    return heard;
+}
+
+/* Prints one line of cells; lines of which no cell was heard are one line together. Returns where the next line starts. */
+static uint32_t print_line(const uint8_t *row, uint32_t start, uint32_t cells)
+{
+    uint32_t end = start;
+    while (end < cells && heard_from(row, end, end + CELLS_IN_LINE) == 0)
+        end += CELLS_IN_LINE;
+    if (end > start) {
+        printf("  %02X to %02X  not heard\n", start, end - 1);
+        return end;
+    }
+    printf("  %02X ", start);
+    for (uint32_t i = start; i < start + CELLS_IN_LINE; i++)
+        if (cell_of(row, i) == VELBUS_UNKNOWN)
+            printf(" --");
+        else
+            printf(" %02X", cell_of(row, i));
+    putchar('\n');
+    return start + CELLS_IN_LINE;
 }
 
 static void print_cells(uint32_t address)
 {
-    uint8_t row[2 * 256];
-    uint32_t cells = 0, heard = 0;
-    while (!velbus_refusal(velbus_cell(picture, sizeof picture, address, cells)))
+    uint8_t row[VELBUS_ROW_SIZE];
+    uint32_t cells = 0, heard;
+    while (!past_last("cell", velbus_cell(picture, sizeof picture, address, cells)))
         cells++;
-    if (velbus_refusal(velbus_memory_row(picture, sizeof picture, address, row, sizeof row)))
+    if (refused("memory row", velbus_memory_row(picture, sizeof picture, address, row, sizeof row)))
         return;
-    for (uint32_t i = 0; i < cells; i++)
-        heard += row[2 * i + 1] == 0;
-    printf("cells    %u of %u heard\n", heard, cells);
-    for (uint32_t start = 0; start < cells; start += 16) {
-        printf("  %02X ", start);
-        for (uint32_t i = start; i < start + 16; i++)
-            if (row[2 * i + 1])
-                printf(" --");
-            else
-                printf(" %02X", row[2 * i]);
-        putchar('\n');
+    heard = heard_from(row, 0, cells);
+    if (heard == 0) {
+        printf("cells    not heard\n");
+        return;
     }
+    printf("cells    %u of %u heard, -- not heard\n", heard, cells);
+    for (uint32_t start = 0; start < cells;)
+        start = print_line(row, start, cells);
+}
+
+static const char *type_name(uint32_t type)
+{
+    return type == VELBUS_VMB8IR ? "VMB8IR" : type == VELBUS_VMB1BL ? "VMB1BL" : "without a name here";
 }
 
 static void print_sheet(uint32_t address)
 {
-    uint32_t type = velbus_value(velbus_type(picture, sizeof picture, address));
+    uint32_t type = velbus_type(picture, sizeof picture, address);
+    if (refused("type", type))
+        return;
     printf("module %02X\n", address);
-    printf("type     %02X %s\n", type, type == VELBUS_VMB8IR ? "VMB8IR" : "VMB1BL");
+    printf("type     %02X %s\n", velbus_value(type), type_name(velbus_value(type)));
     print_number("build    year", velbus_build_year(picture, sizeof picture, address));
     print_number(" week", velbus_build_week(picture, sizeof picture, address));
     putchar('\n');
@@ -153,10 +249,11 @@ static void print_sheet(uint32_t address)
 
 int main(int argc, char **argv)
 {
-    uint8_t listed[256];
-    unsigned long wanted = 256;
-    if (argc < 2 || argc > 3 || (argc == 3 && parse(argv[2], &wanted, 1) != 1)) {
-        fprintf(stderr, "usage: sheet FILE [ADDRESS]\n");
+    uint8_t listed[VELBUS_LISTED_SIZE];
+    unsigned long wanted = 0;
+    int all = argc == 2;
+    if (argc < 2 || argc > 3 || (!all && (parse(argv[2], &wanted, 1) != 1 || wanted >= VELBUS_LISTED_SIZE))) {
+        fprintf(stderr, "usage: sheet FILE [ADDRESS], the address in hexadecimal, 0 to FF\n");
         return 2;
     }
     FILE *file = strcmp(argv[1], "-") == 0 ? stdin : fopen(argv[1], "r");
@@ -164,16 +261,18 @@ int main(int argc, char **argv)
         perror(argv[1]);
         return 1;
     }
-    velbus_fresh(picture, sizeof picture);
+    if (refused("fresh", velbus_fresh(picture, sizeof picture)))
+        return 1;
     if (hear_file(file)) {
         fprintf(stderr, "%s: not read to its end\n", argv[1]);
         return 1;
     }
-    velbus_listed(picture, sizeof picture, listed, sizeof listed);
-    for (uint32_t address = 0; address < 256; address++)
-        if (listed[address] && (wanted == 256 || wanted == address))
+    if (refused("listed", velbus_listed(picture, sizeof picture, listed, sizeof listed)))
+        return 1;
+    for (uint32_t address = 0; address < VELBUS_LISTED_SIZE; address++)
+        if (listed[address] && (all || wanted == address))
             print_sheet(address);
-    if (wanted < 256 && !listed[wanted])
+    if (!all && !listed[wanted])
         printf("module %02lX is not listed\n", wanted);
     return 0;
 }

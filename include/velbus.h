@@ -10,7 +10,7 @@
  * is good for its length, and that the buffers of one call do not overlap. There is no global state: a picture belongs
  * to one caller at a time, and different pictures may be used from different threads.
  *
- * docs/INTERFACE.md has the layouts and the meaning of each number.
+ * docs/INTERFACE.md has the layouts and the meaning of each number, docs/CHANGES.md what a host changes from one version to the next.
  */
 #ifndef VELBUS_H
 #define VELBUS_H
@@ -21,6 +21,8 @@
 #ifdef __cplusplus
 extern "C" {
 #endif
+
+#define VELBUS_VERSION "1.1.0"    /* velbus.pc takes it from here */
 
 /* ---- refusal numbers ---- */
 #define VELBUS_BAD_IDENTIFIER 1   /* identifier above 2047, or SID0 is 1 */
@@ -54,7 +56,10 @@ enum { VELBUS_BLIND_OFF = 0, VELBUS_BLIND_UP = 1, VELBUS_BLIND_DOWN = 2 };
 #define VELBUS_PICTURE_SIZE 17456 /* bytes of a picture; velbus_picture_size() gives the same number */
 #define VELBUS_MESSAGE_SIZE 20    /* bytes of a message */
 #define VELBUS_FRAME_SIZE 12      /* bytes of a written frame */
+#define VELBUS_DATA_SIZE 8        /* the most data bytes of a frame */
 #define VELBUS_NAME_SIZE 16       /* characters of a name */
+#define VELBUS_LISTED_SIZE 256    /* bytes that velbus_listed fills, one for each address */
+#define VELBUS_ROW_SIZE 512       /* the most bytes that velbus_memory_row fills, for the type with the most cells */
 
 /* A message as it lies in its 20 bytes; numbers of more than one byte are low byte first. A field that a message does
  * not have is 0. */
@@ -135,7 +140,7 @@ uint32_t velbus_step_back(uint8_t *picture, size_t picture_len);
 /* The number of steps back that would be granted. */
 uint32_t velbus_kept(const uint8_t *picture, size_t picture_len);
 
-/* Which addresses are listed: 256 bytes into out, 1 or 0. Refuses 13 for fewer than 256. */
+/* Which addresses are listed: VELBUS_LISTED_SIZE bytes into out, 1 or 0. Refuses 13 for fewer. */
 uint32_t velbus_listed(const uint8_t *picture, size_t picture_len, uint8_t *out, size_t out_len);
 
 /* Of a listed module: its type, build year, build week. Refuse 5. */
@@ -152,15 +157,16 @@ uint32_t velbus_led(const uint8_t *picture, size_t picture_len, uint32_t address
 /* A blind, from 1: VELBUS_BLIND_OFF, _UP, _DOWN, or VELBUS_UNKNOWN. Refuses 5, 12. */
 uint32_t velbus_blind(const uint8_t *picture, size_t picture_len, uint32_t address, uint32_t blind);
 
-/* Which characters of a name, from 1, were heard: 16 bytes into out, 1 or 0. Refuses 5, 12, 13. */
+/* Which characters of a name, from 1, were heard: VELBUS_NAME_SIZE bytes into out, 1 or 0. Refuses 5, 12, 13. */
 uint32_t velbus_name_heard(const uint8_t *picture, size_t picture_len, uint32_t address, uint32_t name, uint8_t *out,
                            size_t out_len);
 
-/* A whole name, from 1: its 16 bytes into out. Refuses 5, 12, 13, and 14 where a character was not heard. */
+/* A whole name, from 1: its VELBUS_NAME_SIZE bytes into out. Refuses 5, 12, 13, and 14 where a character was not heard. */
 uint32_t velbus_name(const uint8_t *picture, size_t picture_len, uint32_t address, uint32_t name, uint8_t *out,
                      size_t out_len);
 
-/* Every cell of a module, two bytes each, low byte first: 0 to 255, or VELBUS_UNKNOWN. Refuses 5, 13. */
+/* Every cell of a module, two bytes each, low byte first: 0 to 255, or VELBUS_UNKNOWN. VELBUS_ROW_SIZE bytes are enough for any type.
+ * Refuses 5, 13. */
 uint32_t velbus_memory_row(const uint8_t *picture, size_t picture_len, uint32_t address, uint8_t *out, size_t out_len);
 
 /* ---- recordings ---- */
