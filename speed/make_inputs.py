@@ -12,6 +12,9 @@ import random
 import sys
 
 ROOT = pathlib.Path(__file__).resolve().parent.parent
+sys.path.insert(0, str(ROOT / "samples"))
+from recording import number, record
+
 SMALL, LARGE, LONG = 1, 3, 300  # how many parts of a recording each size holds
 PART = 1000  # records of a part of the random traffic
 
@@ -25,18 +28,6 @@ OF_ONE = {IR: (0xEB, 0xF4, 0xF5, 0xF6, 0xF7, 0xF8, 0xF9), BL: (0xEC, 0x04, 0x05,
 HIGH = (0x00, 0x04, 0x05, 0x06)
 LOCATED = (0xFE, 0xFD, 0xFC, 0xCC, 0xC9, 0xCA)
 NAMED = (0xF0, 0xF1, 0xF2, 0xEF)
-
-
-def number(value):
-    out = bytearray()
-    while value > 127:
-        out.append(value & 0x7F | 0x80)
-        value >>= 7
-    return bytes(out) + bytes([value])
-
-
-def record(address, data, gap=0, priority=3, remote=0, sid0=0):
-    return number(gap) + number(2 * (512 * priority + 2 * address + sid0) + remote) + bytes([len(data)]) + bytes(data)
 
 
 def entry(address, kind):

@@ -4,26 +4,17 @@ all of them, with random and damaged ones, against the second implementation.
 
 usage: listings.py REFERENCE SEED PROGRAM...   (PROGRAM with the words that run it)
 """
+import pathlib
 import random
 import subprocess
 import sys
 
+sys.path.insert(0, str(pathlib.Path(__file__).resolve().parent.parent / "samples"))
+from recording import record
+
 HEADER = "address type names cells\n"
 IR = [0xFF, 0x0A, 0x12, 0x34, 0x01, 0x0C, 0x05]
 BL = [0xFF, 0x03, 0x00, 0x0C, 0x05]
-
-
-def number(value):
-    out = bytearray()
-    while value > 127:
-        out.append(value & 0x7F | 0x80)
-        value >>= 7
-    out.append(value)
-    return bytes(out)
-
-
-def record(address, data, gap=0, priority=3, remote=0):
-    return number(gap) + number(2 * (512 * priority + 2 * address) + remote) + bytes([len(data)]) + bytes(data)
 
 
 def name(address, channel, *parts):
