@@ -73,11 +73,11 @@ static void print_module(const struct ref_module *m)
     for (unsigned n = 0; n < ref_names(m->type); n++) {
         unsigned heard = 0;
         for (unsigned i = 0; i < 16; i++)
-            heard += m->character[n][i] != 256;
+            heard += m->character[n][i] != REF_UNKNOWN;
         names += heard == 16;
     }
     for (unsigned i = 0; i < ref_cells(m->type); i++)
-        cells += m->cell[i] != 256;
+        cells += m->cell[i] != REF_UNKNOWN;
     printf("%02X %02X %u %u\n", m->address, m->type, names, cells);
 }
 
@@ -96,7 +96,7 @@ int main(void)
     struct ref_frame f = {0};
     ref_fresh(&picture);
     while (record(&f))
-        if (ref_hear_on(&picture, &f))
+        if (ref_hear(&picture, &f))
             refused++;
         else
             heard++;

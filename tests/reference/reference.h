@@ -1,6 +1,6 @@
 /* A second implementation of the rules, written from the papers and the layouts of docs/INTERFACE.md and not from the proved code,
  * and made differently on purpose: it keeps the standing frames themselves and works every answer out from them anew. Slow and
- * plain; it is what the library is compared with. */
+ * plain; it is what the library is compared with. It shares no number with the header, and no table with the tests. */
 #ifndef REFERENCE_H
 #define REFERENCE_H
 
@@ -19,12 +19,21 @@ struct ref_frame {
 /* the refusal number, 0 for none; a message that is read is laid into message */
 unsigned ref_read(uint32_t type, const struct ref_frame *frame, uint8_t message[20]);
 
-/* the refusal number; a frame that is written is laid into frame (12 bytes) */
+/* the refusal number; a frame that is written is laid into frame */
 unsigned ref_write(uint32_t type, const uint8_t message[20], uint8_t frame[12]);
+
+/* the name that a channel byte of a type stands for, from 1; 0 where it stands for none */
+unsigned ref_name_of(unsigned type, unsigned channel);
 
 /* ---- the picture ---- */
 
-enum { REF_FRAMES = 4096, REF_MODULES = 16 };
+enum { REF_VMB1BL = 0x03, REF_VMB8IR = 0x0A, REF_UNKNOWN = 256 };
+
+enum {
+    REF_MODULES = 16,
+    REF_STEPS = 16,
+    REF_STANDING = 64 /* frames that are kept: more than can be struck off */
+};
 
 struct ref_module {
     unsigned address, type;
@@ -35,28 +44,34 @@ struct ref_module {
     int blind;
 };
 
-struct ref_picture {
-    size_t frames; /* standing */
-    struct ref_frame standing[REF_FRAMES];
-    unsigned kept;
-    /* worked out from the standing frames by ref_work_out */
-    size_t modules;
+struct ref_modules {
+    size_t count;
     struct ref_module module[REF_MODULES];
+};
+
+struct ref_picture {
+    struct ref_modules settled; /* by the frames before the standing ones: none of them can be struck off any more */
+    size_t frames;
+    struct ref_frame standing[REF_STANDING];
+    unsigned kept;
+    struct ref_modules now; /* worked out anew from both at every change */
 };
 
 void ref_fresh(struct ref_picture *p);
 unsigned ref_hear(struct ref_picture *p, const struct ref_frame *frame);
 unsigned ref_step_back(struct ref_picture *p);
 
-/* hearing with no way back: for runs of more frames than can stand */
-unsigned ref_hear_on(struct ref_picture *p, const struct ref_frame *frame);
-
 /* the module at an address, or NULL */
-const struct ref_module *ref_module_at(const struct ref_picture *p, uint32_t address);
+struct ref_module *ref_module_at(struct ref_picture *p, uint32_t address);
 
 unsigned ref_cells(unsigned type);
 unsigned ref_names(unsigned type);
 unsigned ref_leds(unsigned type);
 unsigned ref_blinds(unsigned type);
+
+/* ---- recordings ---- */
+
+/* the refusal number; a record that is put is laid into buffer at `at`, and put is its length */
+unsigned ref_put_record(uint8_t *buffer, size_t length, size_t at, uint64_t gap, const struct ref_frame *frame, size_t *put);
 
 #endif
