@@ -90,6 +90,7 @@ _Noreturn static void end(void)
 {
     printf("the last frame: identifier %u remote %u", (unsigned)asked.identifier, (unsigned)asked.remote);
     print_bytes(" data", asked.data, asked.count);
+    fflush(stdout); /* a fuzzer does not let exit do it */
     exit(1);
 }
 
