@@ -1,5 +1,6 @@
 pub mod Listed
 pub mod Positions
+pub mod Ones
 pub mod Judged
 pub mod Numbers
 pub mod Faults

@@ -1,46 +1,26 @@
 -- `frame::bytes::bit_position` meets its contract.
 -- Assumes nothing.
+use mathlib.Core.Path.{sym, _∙_}
+use lib.Count.{trailing-le}
+use native.Mathlib.Omega.{arith}
 use Rattle.frame.specs.Types.{positionIn}
-use Rattle.frame.specs.Bytes.{bits}
-use Rattle.frame.proofs.Positions.{position-none}
-use mathlib.Core.Path.{sym}
+use Rattle.frame.proofs.Ones.{position-ones, position-other}
+use borrow.Author.Needs.{needs}
 use Rattle.frame.proofs.bytes.bit_position.Statement.{statement}
 use Rattle.frame.proofs.bytes.bit_position.Tie as tie
 
 returns : tie.Need-returns
 unfolding positionIn
-returns c = rw (c .match .keys1)
+returns c = rw (c .if1 .taken)
+
+cast-result : tie.Need-cast-result
+cast-result c = omega (arith, trailing-le 8 (c .before .before .before .args .x))
 
 returns-2 : tie.Need-returns-2
-unfolding positionIn
-returns-2 c = rw (c .match .keys2)
+returns-2 c = position-ones (c .before .before .before .args .x) (omega arith) (sym (c .before .one-bit .ensures) ∙ c .if2 .taken)
 
 returns-3 : tie.Need-returns-3
-unfolding positionIn
-returns-3 c = rw (c .match .keys3)
-
-returns-4 : tie.Need-returns-4
-unfolding positionIn
-returns-4 c = rw (c .match .keys4)
-
-returns-5 : tie.Need-returns-5
-unfolding positionIn
-returns-5 c = rw (c .match .keys5)
-
-returns-6 : tie.Need-returns-6
-unfolding positionIn
-returns-6 c = rw (c .match .keys6)
-
-returns-7 : tie.Need-returns-7
-unfolding positionIn
-returns-7 c = rw (c .match .keys7)
-
-returns-8 : tie.Need-returns-8
-unfolding positionIn
-returns-8 c = rw (c .match .keys8)
-
-returns-9 : tie.Need-returns-9
-returns-9 c = sym (position-none bits (c .before .args .x) (c .match .rest))
+returns-3 c = position-other (c .before .before .before .args .x) (omega arith) (sym (c .before .one-bit .ensures) ∙ c .if2 .left)
 
 pub bit-position-spec : {M : Type 1} → statement M
-bit-position-spec = tie.close (tie.spec returns returns-2 returns-3 returns-4 returns-5 returns-6 returns-7 returns-8 returns-9)
+bit-position-spec = tie.close (tie.spec returns (λ c κs. search needs) cast-result returns-2 returns-3)

@@ -1,29 +1,20 @@
 -- `frame::fields::buttons_allowed` meets its contract.
 -- Assumes nothing.
 use Prim.Native.Nat.{ℕ, _/_, _%_, _<_}
-use mathlib.Core.Path.{_≡_, refl, sym}
-use mathlib.Core.Bool.{Bool, true, false, _&&_}
+use mathlib.Core.Path.{_≡_, refl}
+use mathlib.Core.Bool.{_&&_}
 use lib.Dec.{eqb, ltb}
 use Rattle.frame.proofs.Listed.{other-line}
 use Rattle.frame.specs.Bytes.{bits}
 use Rattle.frame.specs.Types.{lineOf, channelsOf, blindChannels}
 use Rattle.frame.specs.Fields.{clearBits, buttonsAllowed}
 use Rattle.laws.proofs.Keys.{below}
+use Rattle.laws.proofs.Testing.{same, same-is}
 use mathlib.Core.List.{[]}
 use native.Mathlib.Omega.{arith}
 use borrow.Author.Needs.{needs}
 use Rattle.frame.proofs.fields.buttons_allowed.Statement.{statement}
 use Rattle.frame.proofs.fields.buttons_allowed.Tie as tie
-
-abbrev same : Bool → Bool → Bool
-same true b = b
-same false true = false
-same false false = true
-
-same-is : (a b : Bool) → same a b ≡ true → a ≡ b
-same-is true b e = sym e
-same-is false true e = e
-same-is false false e = refl
 
 of-blind : (x : ℕ) → x < 256 → (ltb x 64 && eqb (x / 4 % 4) 0) ≡ clearBits blindChannels bits x
 of-blind x h = same-is _ _ (below (λ x. same (ltb x 64 && eqb (x / 4 % 4) 0) (clearBits blindChannels bits x)) 256 refl x h)
