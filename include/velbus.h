@@ -22,7 +22,7 @@
 extern "C" {
 #endif
 
-#define VELBUS_VERSION "1.1.0"    /* velbus.pc takes it from here */
+#define VELBUS_VERSION "1.2.0"    /* velbus.pc takes it from here */
 
 /* ---- refusal numbers ---- */
 #define VELBUS_BAD_IDENTIFIER 1   /* identifier above 2047, or SID0 is 1 */
@@ -91,7 +91,7 @@ enum {
     VELBUS_NAME_ONE = 13,     /* F0: channel, six bytes */
     VELBUS_NAME_TWO = 14,     /* F1: channel, six bytes */
     VELBUS_NAME_THREE = 15,   /* F2: channel, four bytes */
-    VELBUS_NAME_ASKED = 16,   /* EF: channel */
+    VELBUS_NAME_ASKED = 16,   /* EF: channel; of a VMB1BL any of its channels put together (bitwise or) */
     VELBUS_STATUS_ASKED = 17, /* FA: channel */
     VELBUS_INPUT_STATUS = 18, /* EB: four bytes */
     VELBUS_LEDS_ALL = 19,     /* F4: bytes on, slow, fast */

@@ -57,6 +57,12 @@ static const uint8_t name_of[PLAIN_KINDS][256] = {
 
 enum { BLIND_CHANNEL = 0x03, NO_BUTTON_BITS = 0xCC, END_OF_BUTTON_NAME = 0xFF };
 
+/* Whether names may be asked for by a byte that is no channel: several of a blind module's together. */
+static inline int names_together(unsigned kind, uint8_t byte)
+{
+    return kind == PLAIN_VMB1BL && byte != 0 && (byte & NO_BUTTON_BITS) == 0 && (byte & 3) % 3 == 0;
+}
+
 static const uint16_t cells_of[PLAIN_KINDS] = {0, 256, 128};
 static const uint8_t names_of[PLAIN_KINDS] = {0, 8, 3};
 static const uint8_t type_of[PLAIN_KINDS] = {0x00, 0x0A, 0x03};
@@ -251,7 +257,7 @@ static inline uint32_t act_on(struct plain_picture *p, struct plain_module *m, c
     case NAME_THREE:
         return end_of_name_allowed(m, d) ? tell_name(p, m, d, 12, 4) : refuse(BAD_FIELD);
     case NAME_ASKED:
-        return name_of[m->kind][d[1]] == 0 ? refuse(BAD_FIELD) : step_over_nothing(p);
+        return name_of[m->kind][d[1]] == 0 && !names_together(m->kind, d[1]) ? refuse(BAD_FIELD) : step_over_nothing(p);
     case STATUS_ASKED:
         return d[1] != BLIND_CHANNEL ? refuse(BAD_FIELD) : step_over_nothing(p);
     case INPUT_STATUS:

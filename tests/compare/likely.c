@@ -46,7 +46,10 @@ static void likely_fields(struct ref_frame *f)
         d[1] = 0;
         d[2] &= draw(2) ? 0x3F : 0xFF;
         break;
-    case 0xF0: case 0xF1: case 0xF2: case 0xEF:
+    case 0xEF:
+        d[1] = (uint8_t)(likely_channel() | (draw(2) ? likely_channel() : 0));
+        break;
+    case 0xF0: case 0xF1: case 0xF2:
         d[1] = likely_channel();
         if (d[0] == 0xF2 && draw(2))
             d[5] = 0xFF;

@@ -67,6 +67,19 @@ unsigned ref_name_of(unsigned type, unsigned channel)
     return name;
 }
 
+/* Names asked for: of a blind module several together, where nothing is left once each identifier that the byte holds is taken out. */
+static int names_asked(unsigned type, unsigned byte)
+{
+    static const uint8_t of_blind[] = {0x03, 0x10, 0x20};
+    if (type != BL)
+        return ref_name_of(type, byte) != 0;
+    unsigned left = byte;
+    for (size_t i = 0; i < sizeof of_blind; i++)
+        if ((byte & of_blind[i]) == of_blind[i])
+            left &= ~(unsigned)of_blind[i];
+    return byte != 0 && left == 0;
+}
+
 /* ---- refusals ---- */
 
 /* whether the fields of a frame of the right length are allowed; d[1] is data byte 1 */
@@ -77,8 +90,10 @@ static int fields_allowed(unsigned type, const uint8_t *d)
         return d[2] == 0 && (type == IR || d[3] <= 0x7F);
     case 0xCC: case 0xC9: case 0xCA:
         return d[2] == 0 && d[3] <= (type == IR ? 0xFC : 0x7C);
-    case 0xF0: case 0xF1: case 0xEF:
+    case 0xF0: case 0xF1:
         return ref_name_of(type, d[2]) != 0;
+    case 0xEF:
+        return names_asked(type, d[2]);
     case 0xF2:
         return ref_name_of(type, d[2]) != 0 && (type == IR || d[2] == 0x03 || d[6] == 0xFF);
     default:

@@ -12,7 +12,7 @@ use Rattle.laws.proofs.Testing.{and-both, unrefused-is}
 use Rattle.frame.specs.Types.{lineOf, blindsOf, channelsOf, rowsOf, rowFor, isListed}
 use Rattle.frame.specs.Bytes.{byte, dataOf}
 use Rattle.frame.specs.Messages.{typeCommand, decode}
-use Rattle.frame.specs.Fields.{buttonsAllowed}
+use Rattle.frame.specs.Fields.{buttonsAllowed, askedAllowed}
 use Rattle.frame.specs.Reading.{commandRefusal, commandRead, requestRead}
 use Rattle.codec.specs.Statements.{EveryRow, EveryRequest}
 use Rattle.frame.specs.declared.messages.Message.the-variants.{Tells}
@@ -41,7 +41,7 @@ abbrev taken : ℕ → ℕ → Row → Bool
 taken kind c r = eqb (commandRefusal kind (r .1) (dataOf (sample kind c r)) (decode (padded (sample kind c r)))) 0
 
 all-work : (kind c : ℕ) → isListed kind c ≡ true → begun kind c (rowFor kind c) && taken kind c (rowFor kind c) ≡ true
-unfolding lineOf rowsOf buttonsAllowed
+unfolding lineOf rowsOf buttonsAllowed askedAllowed
 all-work = of-listed (λ kind c r. begun kind c r && taken kind c r) refl
 
 pub every-row : EveryRow

@@ -6,6 +6,7 @@ use frame::buttons_fault;
 use frame::cell_fault;
 use frame::channel_fault;
 use frame::last_part_fault;
+use frame::name_asked_fault;
 use frame::status_asked_fault;
 use frame::stop_fault;
 use frame::timed_fault;
@@ -33,7 +34,7 @@ pub fn fault_of(kind: u32, m: Command) -> u8
         Command::NameOne(n, _, _, _, _, _, _) => channel_fault(kind, n),
         Command::NameTwo(n, _, _, _, _, _, _) => channel_fault(kind, n),
         Command::NameThree(n, _, _, _, last) => last_part_fault(kind, n, last),
-        Command::NameAsked(n) => channel_fault(kind, n),
+        Command::NameAsked(n) => name_asked_fault(kind, n),
         Command::StatusAsked(n) => status_asked_fault(kind, n),
         Command::InputStatus(_, _, _, _) => 0,
         Command::LedsAll(_, _, _) => 0,

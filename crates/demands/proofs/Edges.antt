@@ -3,6 +3,7 @@ use mathlib.Core.Path.{refl}
 use mathlib.Core.List.{reverse}
 use Rattle.laws.specs.Tab.{tab}
 use Rattle.frame.specs.Types.{lineOf, rowsOf, extentOf, positionIn, nameOf}
+use Rattle.frame.specs.Fields.{askedAllowed}
 use Rattle.frame.specs.Reading.{reading, commandRead, requestRead}
 use Rattle.places.specs.Places.{cellAsked, ledAsked, hasName}
 use Rattle.places.specs.Runs.{saidFrom, glowBy, meaningOf, meant, readAs}
@@ -15,7 +16,7 @@ use Rattle.recording.specs.Record.{readRecord}
 use Rattle.demands.specs.Edges.{EdgesHold, EdgesOnBytes}
 
 pub edges-hold : EdgesHold
-unfolding tab lineOf rowsOf extentOf positionIn nameOf reading commandRead requestRead cellAsked ledAsked hasName saidFrom glowBy meaningOf meant readAs sense meaning typed typeOf after gave latest more listed judged judgement stands standing allHeard toldName toldAs toldReply numberBytes readNumber readRecord
+unfolding tab lineOf rowsOf extentOf positionIn nameOf askedAllowed reading commandRead requestRead cellAsked ledAsked hasName saidFrom glowBy meaningOf meant readAs sense meaning typed typeOf after gave latest more listed judged judgement stands standing allHeard toldName toldAs toldReply numberBytes readNumber readRecord
 edges-hold = refl
 
 pub edges-on-bytes : EdgesOnBytes

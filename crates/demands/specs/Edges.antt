@@ -49,6 +49,13 @@ pub record Row : Type 0 where
 abbrev pub at : Address
 at = record { 0 = example }
 
+-- its identifier, of low and of high priority
+abbrev pub lowExample : ℕ
+lowExample = 1620
+
+abbrev pub highExample : ℕ
+highExample = 84
+
 -- an identifier is of this priority and address
 abbrev pub identifies : ℕ → ℕ → Address → Row
 identifies i p a = record { given = parts (priorityOf i) (addressOf i); right = parts p a }
@@ -86,14 +93,14 @@ readAs bs v = record { given = number (readNumber gapGroups mostGap 0 bs); right
 abbrev pub begins : List ℕ → Entry → Row
 begins bs e = record { given = entry (readRecord bs 0); right = entry e }
 
+-- a blind module is asked for these names; or for what are none
+abbrev pub asksFor : ℕ → Row
+asksFor x = accepts 0x03 lowExample (0xEF ∷ x ∷ []) (NameAsked x)
+
+abbrev pub asksNone : ℕ → Row
+asksNone x = reads 0x03 lowExample 0 (0xEF ∷ x ∷ []) (Refused badField)
+
 -- ---- what they speak of
--- the identifier of the example module, of low and of high priority
-abbrev pub lowExample : ℕ
-lowExample = 1620
-
-abbrev pub highExample : ℕ
-highExample = 84
-
 -- four cells told from a location
 abbrev pub block : ℕ → List ℕ
 block l = 0xCC ∷ 0x00 ∷ l ∷ 1 ∷ 2 ∷ 3 ∷ 4 ∷ []
@@ -145,6 +152,18 @@ edges =
     -- EF 03: refused 9 for H'0A', accepted for H'03'
     ∷ reads 0x0A lowExample 0 (0xEF ∷ 0x03 ∷ []) (Refused badField)
     ∷ accepts 0x03 lowExample (0xEF ∷ 0x03 ∷ []) (NameAsked 0x03)
+    -- EF of H'03' by document 02, W-203: H'33' is accepted, H'01' is still refused; F0 of H'13' is refused
+    ∷ asksNone 0x00
+    ∷ asksNone 0x01
+    ∷ asksNone 0x02
+    ∷ asksFor 0x03
+    ∷ asksFor 0x10
+    ∷ asksFor 0x13
+    ∷ asksFor 0x30
+    ∷ asksFor 0x33
+    ∷ asksNone 0x34
+    ∷ asksNone 0x43
+    ∷ reads 0x03 lowExample 0 (0xF0 ∷ 0x13 ∷ 0 ∷ 0 ∷ 0 ∷ 0 ∷ 0 ∷ 0 ∷ []) (Refused badField)
     -- CC at H'00FC' accepted, H'00FD' refused 9 for H'0A'; H'007C' and H'007D' likewise for H'03'
     ∷ accepts 0x0A lowExample (block 0xFC) (blockTold 0xFC)
     ∷ reads 0x0A lowExample 0 (block 0xFD) (Refused badField)

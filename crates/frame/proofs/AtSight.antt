@@ -1,6 +1,6 @@
 -- What is taken at sight is what the judge takes.
 --     row-of             the row of a command that every type has which has some of a thing
---     on-cells, on-channel, on-last-part, on-free     a command by its row and its field, for each kind of field
+--     on-cells, on-channel, on-last-part, on-asked, on-free     a command by its row and its field, for each kind of field
 --     at-sight           and then the frame, of low priority
 -- Assumes nothing.
 use Prim.Native.Nat.{ℕ, suc, _+_, _-_, _/_, _%_, _<_}
@@ -18,13 +18,14 @@ use Rattle.frame.specs.Identifiers.{low}
 use Rattle.frame.specs.Types.{Entry, Line, types, noLine, lineOf, allRows, rowsOf, find, rowFor, cellsOf, channelsOf}
 use Rattle.frame.specs.Bytes.{byte, dataOf, bytesOf}
 use Rattle.frame.specs.Messages.{typeCommand, locationIn, decode}
-use Rattle.frame.specs.Fields.{locationFault, channelAllowed, channelFault, lastPartFault, fault}
+use Rattle.frame.specs.Fields.{locationFault, channelAllowed, channelFault, lastPartFault, askedAllowed, nameAskedFault, fault}
 use Rattle.frame.specs.Reading.{rowRefusal, commandRefusal, reading, readingNumber}
 use Rattle.frame.specs.declared.bytes.Data.{Data}
 use Rattle.frame.specs.declared.messages.Command.{Command}
 use Rattle.frame.proofs.Judged.{Framed, Listed, frame-holds, row-held, row-holds}
 use Rattle.frame.proofs.Listed.{listed-module, module-some, module-handed, row-size}
 use Rattle.frame.proofs.Faults.{by-handed}
+use Rattle.frame.proofs.Unions.{some-asked}
 use Rattle.frame.proofs.Numbers.{behind, command-number}
 
 -- a thing that types have some of, and a command of so many bytes that every type with some of it lists at low priority
@@ -86,6 +87,13 @@ module _ (kind c n : ℕ) (s : List ℕ) {k : ℕ} (first : k ≡ byte 1 s) (is 
   on-last-part rows is h =
       let allowed = held (channelAllowed kind (byte 2 s)) 2 _ (lit< tt) (h .1) .0 in
       taken (row-of (λ l. length (l .channels)) c n rows kind (some-channel (byte 2 s) (channelsOf kind) allowed)) (h .0) (is ∙ h .1)
+
+  pub on-asked :
+      AllRowed (λ l. length (l .channels)) c n → found ≡ nameAskedFault kind (byte 2 s)
+      → (length s ≡ n) × (nameAskedFault kind (byte 2 s) ≡ 0) → Taken kind s
+  on-asked rows is h =
+      let allowed = held (askedAllowed kind (byte 2 s)) 2 0 (lit< tt) (h .1) .0 in
+      taken (row-of (λ l. length (l .channels)) c n rows kind (some-asked kind (byte 2 s) allowed)) (h .0) (is ∙ h .1)
 
   pub on-free : (some : Line → ℕ) → AllRowed some c n → found ≡ 0 → (length s ≡ n) × (0 < some (lineOf kind)) → Taken kind s
   on-free some rows free h = taken (row-of some c n rows kind (h .1)) (h .0) free

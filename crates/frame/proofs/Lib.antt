@@ -4,4 +4,5 @@ pub mod Ones
 pub mod Judged
 pub mod Numbers
 pub mod Faults
+pub mod Unions
 pub mod AtSight

@@ -2,6 +2,7 @@
 // this does not take, the judge judges: `false` says nothing of a frame.
 use crate::fields::channel_allowed;
 use crate::fields::last_part_fault;
+use crate::fields::name_asked_fault;
 use crate::identifiers::LOW;
 use crate::messages::location_of;
 use crate::types::extent_of;
@@ -15,7 +16,7 @@ ghost use Rattle.frame.specs.Identifiers.{low};
 ghost use Rattle.frame.specs.Types.{cellsOf};
 ghost use Rattle.frame.specs.Bytes.{byte, dataOf, bytesOf};
 ghost use Rattle.frame.specs.Messages.{typeCommand, locationIn, decode};
-ghost use Rattle.frame.specs.Fields.{channelAllowed, lastPartFault};
+ghost use Rattle.frame.specs.Fields.{channelAllowed, lastPartFault, nameAskedFault};
 ghost use Rattle.frame.specs.Reading.{rowRefusal, reading, readingNumber};
 
 // Of so many bytes, with a location at which the type has a cell, and so many more after it.
@@ -53,6 +54,20 @@ fn last_part_fits(kind: u32, data: &[u8]) -> bool
     }
 }
 
+// Names asked for: one, as it mostly is, or several.
+fn names_fit(kind: u32, data: &[u8]) -> bool
+    ensures { λ r. ⌜ (r ≡ true → (length (now («data» .entry)) ≡ 2) × (nameAskedFault kind (byte 2 (now («data» .entry))) ≡ 0)) ⌝ }
+{
+    if data.len() != 2 {
+        return false;
+    }
+    let asked = byte_at(data, 1);
+    if channel_allowed(kind, asked) {
+        return true;
+    }
+    name_asked_fault(kind, asked) == 0
+}
+
 // Of so many bytes, whose fields are free, of a type that has some of what the command is on.
 fn free_fits(data: &[u8], count: usize, some: u32) -> bool
     ensures { λ r. ⌜ (r ≡ true → (length (now («data» .entry)) ≡ count) × (0 < some)) ⌝ }
@@ -79,7 +94,7 @@ fn command_fits(kind: u32, data: &[u8]) -> bool
         0xF0 => channel_fits(kind, data, 8),
         0xF1 => channel_fits(kind, data, 8),
         0xF2 => last_part_fits(kind, data),
-        0xEF => channel_fits(kind, data, 2),
+        0xEF => names_fit(kind, data),
         0xDA => free_fits(data, 4, extent_of(kind).cells),
         0xCB => free_fits(data, 1, extent_of(kind).cells),
         0xD9 => free_fits(data, 1, extent_of(kind).cells),

@@ -50,7 +50,7 @@ returns-15 : tie.Need-returns-15
 returns-15 c = rw (c .before .before .m11 .given .1, c .last-part-fault .ensures)
 
 returns-16 : tie.Need-returns-16
-returns-16 c = rw (c .before .before .m12 .given .1, c .channel-fault3 .ensures)
+returns-16 c = rw (c .before .before .m12 .given .1, c .name-asked-fault .ensures)
 
 returns-17 : tie.Need-returns-17
 returns-17 c = rw (c .before .before .m13 .given .1, c .status-asked-fault .ensures)

@@ -26,7 +26,7 @@ returns-6 : tie.Need-returns-6
 returns-6 c = let a = c .before .before .before .before .before .args in arm (a .own) 0xF2 (dataOf (a .«data» .now)) (sym (c .before .before .before .before .before .pre) ∙ c .before .before .before .match .keys6) (rw (c .before .byte-at7 .ensures, c .before .before .byte-at6 .ensures) at (c .last-part-fault .ensures))
 
 returns-7 : tie.Need-returns-7
-returns-7 c = let a = c .before .before .before .before .args in arm (a .own) 0xEF (dataOf (a .«data» .now)) (sym (c .before .before .before .before .pre) ∙ c .before .before .match .keys7) (rw (c .before .byte-at8 .ensures) at (c .channel-fault3 .ensures))
+returns-7 c = let a = c .before .before .before .before .args in arm (a .own) 0xEF (dataOf (a .«data» .now)) (sym (c .before .before .before .before .pre) ∙ c .before .before .match .keys7) (rw (c .before .byte-at8 .ensures) at (c .name-asked-fault .ensures))
 
 returns-8 : tie.Need-returns-8
 returns-8 c = let a = c .before .before .before .before .args in arm (a .own) 0xFA (dataOf (a .«data» .now)) (sym (c .before .before .before .before .pre) ∙ c .before .before .match .keys8) (rw (c .before .byte-at9 .ensures) at (c .status-asked-fault .ensures))

@@ -4,7 +4,7 @@ use native.Mathlib.Omega.{arith}
 use mathlib.Core.Path.{refl}
 use Rattle.laws.proofs.Testing.{not-both}
 use Rattle.frame.specs.Types.{extentOf}
-use Rattle.frame.proofs.AtSight.{on-cells, on-channel, on-last-part, on-free}
+use Rattle.frame.proofs.AtSight.{on-cells, on-channel, on-last-part, on-asked, on-free}
 use borrow.Author.Needs.{needs}
 use Rattle.frame.proofs.sight.command_fits.Statement.{statement}
 use Rattle.frame.proofs.sight.command_fits.Tie as tie
@@ -37,7 +37,7 @@ returns-9 : tie.Need-returns-9
 returns-9 c h = on-last-part (c .before .before .before .before .args .kind) 0xF2 6 (c .before .before .before .before .args .«data» .now) (c .before .before .byte-at .ensures) (c .before .match .keys9) (refl, refl) (refl, refl) refl (c .last-part-fits .ensures h)
 
 returns-10 : tie.Need-returns-10
-returns-10 c h = on-channel (c .before .before .before .before .args .kind) 0xEF 2 (c .before .before .before .before .args .«data» .now) (c .before .before .byte-at .ensures) (c .before .match .keys10) (refl, refl) (refl, refl) refl (c .channel-fits3 .ensures h)
+returns-10 c h = on-asked (c .before .before .before .before .args .kind) 0xEF 2 (c .before .before .before .before .args .«data» .now) (c .before .before .byte-at .ensures) (c .before .match .keys10) (refl, refl) (refl, refl) refl (c .names-fit .ensures h)
 
 returns-11 : tie.Need-returns-11
 unfolding extentOf
