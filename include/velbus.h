@@ -171,7 +171,7 @@ uint32_t velbus_memory_row(const uint8_t *picture, size_t picture_len, uint32_t 
 
 /* ---- recordings ---- */
 
-/* Puts a record into buffer at the place `at`. Value: the bytes written. Refuses 16 (gap above 268435455, identifier above 2047,
+/* Puts a record into buffer at the place `at`. Value: the bytes written. Refuses 16 (gap above 34359738367, identifier above 2047,
  * remote flag not 0 or 1, over 8 data bytes), then 13. */
 uint32_t velbus_put_record(uint8_t *buffer, size_t buffer_len, size_t at, uint64_t gap, uint32_t identifier,
                            uint32_t remote, const uint8_t *data, size_t data_len);

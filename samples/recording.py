@@ -11,5 +11,5 @@ def number(value):
 
 
 def record(address, data, gap=0, priority=3, remote=0, sid0=0):
-    """A frame, and the gap in ms before it."""
+    """A frame, and the gap before it, in the logger's unit."""
     return number(gap) + number(2 * (512 * priority + 2 * address + sid0) + remote) + number(len(data)) + bytes(data)

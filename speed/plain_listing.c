@@ -6,7 +6,7 @@
 #include <unistd.h>
 
 enum { CUT_OFF = 15, BAD_NUMBER = 16 };
-enum { WINDOW = 1 << 16, LONGEST_RECORD = 4 + 2 + 1 + 8 };
+enum { WINDOW = 1 << 16, LONGEST_RECORD = 5 + 2 + 1 + 8 };
 
 struct tally {
     unsigned long long heard, refused;
@@ -31,11 +31,11 @@ static inline struct record fault_at(const uint8_t *at) { return (struct record)
  * past it. A number's last group is 0 only where it is the first one. */
 static inline struct record read_record(const uint8_t *at)
 {
-    if (*at >= 0x80) { /* the gap, of which only the form matters: any four groups are in its range */
-        const uint8_t *fourth = at + 3;
+    if (*at >= 0x80) { /* the gap, of which only the form matters: any five groups are in its range */
+        const uint8_t *fifth = at + 4;
         do
             at++;
-        while (*at >= 0x80 && at < fourth);
+        while (*at >= 0x80 && at < fifth);
         if ((uint8_t)(*at - 1) > 126)
             return fault_at(at);
     }

@@ -47,7 +47,7 @@ static int record(struct ref_frame *f)
 {
     if (at == length)
         return 0;
-    number(4, 268435455);
+    number(5, 34359738367);
     if (fault)
         return 0;
     uint64_t word = number(2, 4095);

@@ -39,8 +39,10 @@ def named_cases():
     n = len(first)
     listed = HEADER + "2A 0A 0 0\n"
     yield "a gap of two bytes that is not shortest", first + b"\x80\x00", listed + broken(n + 1, 16) + counts(1, 0)
-    yield "a gap of five groups", first + b"\xff\xff\xff\xff\x01", listed + broken(n + 3, 16) + counts(1, 0)
-    yield "the greatest gap", first + b"\xff\xff\xff\x7f" + record(0x2A, [0xCB])[1:], listed + counts(2, 0)
+    yield "a gap of five groups that is not shortest", first + b"\x80\x80\x80\x80\x00", listed + broken(n + 4, 16) + counts(1, 0)
+    yield "a gap of six groups", first + b"\xff\xff\xff\xff\xff\x01", listed + broken(n + 4, 16) + counts(1, 0)
+    for title, gap in ("the greatest gap of four groups", 268435455), ("one more", 268435456), ("the greatest gap", 34359738367):
+        yield title, first + record(0x2A, [0xCB], gap=gap), listed + counts(2, 0)
     yield "a word of three groups", first + b"\x00\x80\x80\x01", listed + broken(n + 2, 16) + counts(1, 0)
     yield "a word above 4095", first + b"\x00\x80\x20\x00", listed + broken(n + 2, 16) + counts(1, 0)
     yield "a word that is not shortest", first + b"\x00\x80\x00\x00", listed + broken(n + 2, 16) + counts(1, 0)
@@ -81,7 +83,7 @@ def long_recording(rng, size):
             [0xF6, rng.randrange(256)],
             [],
         )[k]
-        out += record(address, data, gap=rng.choice((0, 5, 200, 20000, 3000000)), remote=int(not data))
+        out += record(address, data, gap=rng.choice((0, 5, 200, 20000, 3000000, 300000000)), remote=int(not data))
     return bytes(out)
 
 

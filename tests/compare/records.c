@@ -3,8 +3,9 @@
 
 static uint64_t some_gap(void)
 {
-    static const uint64_t gaps[] = {0, 127, 128, 16383, 16384, 2097151, 2097152, 268435455, 268435456, UINT64_MAX};
-    return draw(3) ? gaps[draw(sizeof gaps / sizeof gaps[0])] : (uint64_t)draw(1u << 30) + draw(5);
+    static const uint64_t gaps[] = {0,         127,       128,         16383,       16384,         2097151,        2097152,
+                                    268435455, 268435456, 34359738367, 34359738368, 4398046511103, (uint64_t)1 << 63, UINT64_MAX};
+    return draw(3) ? gaps[draw(sizeof gaps / sizeof gaps[0])] : (uint64_t)draw(1u << 30) << draw(7);
 }
 
 void every_record(unsigned long turns)

@@ -15,8 +15,8 @@ static size_t put_number(uint8_t *to, uint64_t value)
 
 unsigned ref_put_record(uint8_t *buffer, size_t length, size_t at, uint64_t gap, const struct ref_frame *f, size_t *put)
 {
-    uint8_t record[4 + 2 + 1 + 8];
-    if (gap > 268435455 || f->identifier > 2047 || f->remote > 1 || f->count > 8)
+    uint8_t record[5 + 2 + 1 + 8];
+    if (gap > 34359738367 || f->identifier > 2047 || f->remote > 1 || f->count > 8)
         return 16;
     size_t n = put_number(record, gap);
     n += put_number(record + n, 2 * f->identifier + f->remote);

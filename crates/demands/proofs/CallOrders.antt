@@ -26,7 +26,7 @@ use Rattle.places.specs.declared.answers.Answer.the-variants as answer
 use Rattle.recording.specs.declared.writes.Put.{Put}
 use Rattle.recording.specs.declared.writes.Put.the-variants as put
 use Rattle.recording.specs.Write.{inRange, recordBytes, putCase, placed, putAnswer, putBytes}
-use Rattle.recording.proofs.Entries.{records-are-whole, faults-are-placed}
+use Rattle.recording.proofs.Entries.{records-are-whole, faults-are-placed, old-recordings-read}
 use Rattle.recording.proofs.Faults.{fault-is-certain, mendable-is-cut}
 use Rattle.recording.proofs.Mending.{cut-can-be-mended}
 use Rattle.recording.proofs.Windows.{window-settles}
@@ -70,6 +70,7 @@ recordings =
       mended = cut-can-be-mended;
       mendable = mendable-is-cut;
       settles = window-settles;
+      old = old-recordings-read;
     }
 
 -- ---- words

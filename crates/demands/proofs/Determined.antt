@@ -8,6 +8,7 @@ determined =
       no-choice = no-choice;
       copy-in = λ out at bytes. of-answer _;
       put-at = λ s i v. of-answer _;
+      put-number = λ out at v. of-lent _ _;
       fresh = λ b. (of-lent _ _, of-lent _ _);
       hear = λ b identifier remote s. (of-lent _ _, of-lent _ _);
       step-back = λ b. (of-lent _ _, of-lent _ _);

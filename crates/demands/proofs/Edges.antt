@@ -11,12 +11,12 @@ use Rattle.history.specs.Standing.{sense, meaning, typed, typeOf, after, gave, 
 use Rattle.history.specs.Asked.{allHeard, toldName, toldAs, toldReply}
 use Rattle.history.specs.Cases.{example}
 use Rattle.history.proofs.Demand3.{demand-3}
-use Rattle.recording.specs.Number.{numberBytes, readNumber}
-use Rattle.recording.specs.Record.{readRecord}
+use Rattle.numbers.specs.Number.{numberBytes, readNumber}
+use Rattle.recording.specs.Record.{readWithin}
 use Rattle.demands.specs.Edges.{EdgesHold, EdgesOnBytes}
 
 pub edges-hold : EdgesHold
-unfolding tab lineOf rowsOf extentOf positionIn nameOf askedAllowed reading commandRead requestRead cellAsked ledAsked hasName saidFrom glowBy meaningOf meant readAs sense meaning typed typeOf after gave latest more listed judged judgement stands standing allHeard toldName toldAs toldReply numberBytes readNumber readRecord
+unfolding tab lineOf rowsOf extentOf positionIn nameOf askedAllowed reading commandRead requestRead cellAsked ledAsked hasName saidFrom glowBy meaningOf meant readAs sense meaning typed typeOf after gave latest more listed judged judgement stands standing allHeard toldName toldAs toldReply numberBytes readNumber readWithin
 edges-hold = refl
 
 pub edges-on-bytes : EdgesOnBytes

@@ -25,7 +25,7 @@ use Rattle.questions.specs.Question.{Question, Reply}
 use Rattle.questions.specs.Replies.{keptAnswer, listing, reply}
 use Rattle.recording.specs.declared.writes.Put.{Put}
 use Rattle.recording.specs.Write.{recordBytes, putNumbers, putAnswer, putBytes}
-use Rattle.recording.specs.Statements.{RecordsAreWhole, FaultsArePlaced, FaultIsCertain, CutCanBeMended, MendableIsCut, WindowSettles}
+use Rattle.recording.specs.Statements.{RecordsAreWhole, FaultsArePlaced, FaultIsCertain, CutCanBeMended, MendableIsCut, WindowSettles, OldRecordingsRead}
 use Rattle.replay.specs.declared.records.Replayed.{Replayed}
 use Rattle.replay.specs.declared.window.Part.{Part}
 use Rattle.replay.specs.declared.window.Stream.{Stream}
@@ -123,6 +123,8 @@ pub record Recordings : Type 0 where
   pub mended : CutCanBeMended
   pub mendable : MendableIsCut
   pub settles : WindowSettles
+  -- and an older one reads as before
+  pub old : OldRecordingsRead
 
 -- recordings heard, whole and in parts, and the listing of what was heard
 pub record Replaying : Type 0 where

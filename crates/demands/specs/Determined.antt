@@ -12,6 +12,7 @@ use Rattle.picture.specs.Stepping.{steppingBack}
 use Rattle.picture.specs.Fresh.{freshening}
 use Rattle.questions.specs.Question.{Question, Reply}
 use Rattle.questions.specs.Replies.{listing, reply}
+use Rattle.numbers.specs.Write.{putGroups, putInto}
 use Rattle.recording.specs.Write.{putAnswer, putBytes}
 use Rattle.replay.specs.declared.window.Stream.{Stream}
 use Rattle.replay.specs.Replay.{replayAnswer, replayPicture}
@@ -31,9 +32,10 @@ OneReply r = OneResult (r .answer) (r .buffer) × OneResult (answerWord (r .answ
 pub record Determined : Type 1 where
   -- whatever the definitions are
   pub no-choice : NoChoice
-  -- laws: copy_in; places: put_at
+  -- laws: copy_in; places: put_at; numbers: put_number
   pub copy-in : (out : List ℕ) (at : ℕ) (bytes : List ℕ) → OneAnswer (copiedIn out at bytes)
   pub put-at : (s : List ℕ) (i v : ℕ) → OneAnswer (set s i v)
+  pub put-number : (out : List ℕ) (at v : ℕ) → OneResult (putGroups out at v) (putInto out at v)
   -- fresh, hear, step_back
   pub fresh : (b : List ℕ) → OneCall (freshening b)
   pub hear : (b : List ℕ) (identifier remote : ℕ) (s : List ℕ) → OneCall (hearing b identifier remote s)

@@ -22,12 +22,12 @@ use Rattle.history.specs.Standing.{Event}
 use Rattle.history.specs.Demand3.{runBytes}
 use Rattle.history.specs.Cases.{example, ir, toldTo}
 use Rattle.history.specs.Cases.{low as heard}
-use Rattle.recording.specs.declared.numbers.Number.{Number}
-use Rattle.recording.specs.declared.numbers.Number.the-variants as numbers
+use Rattle.numbers.specs.declared.reads.Found.{Found}
+use Rattle.numbers.specs.declared.reads.Found.the-variants as numbers
+use Rattle.numbers.specs.Number.{bytesOf, numberAt}
 use Rattle.recording.specs.declared.records.Entry.{Entry}
 use Rattle.recording.specs.declared.records.Entry.the-variants.{Broken}
-use Rattle.recording.specs.Limits.{mostGap, gapGroups}
-use Rattle.recording.specs.Number.{numberBytes, readNumber}
+use Rattle.recording.specs.Limits.{mostGap}
 use Rattle.recording.specs.Record.{readRecord}
 
 -- what an edge shows: the priority and the address of an identifier; a frame as it is read; answers; a name; a number's bytes; a number that was
@@ -38,7 +38,7 @@ pub data Shown : Type 0 where
   answers : List Answer → Shown
   name : Reply → Shown
   bytes : List ℕ → Shown
-  number : Number → Shown
+  number : Found → Shown
   entry : Entry → Shown
 
 pub record Row : Type 0 where
@@ -84,10 +84,10 @@ named es r = record { given = name (toldTo es (whole-name channel) zeros); right
 
 -- a number's bytes, and the same bytes read
 abbrev pub written : ℕ → List ℕ → Row
-written v bs = record { given = bytes (numberBytes gapGroups v); right = bytes bs }
+written v bs = record { given = bytes (bytesOf v); right = bytes bs }
 
 abbrev pub readAs : List ℕ → ℕ → Row
-readAs bs v = record { given = number (readNumber gapGroups mostGap 0 bs); right = number (numbers.Value v (length bs)) }
+readAs bs v = record { given = number (numberAt bs 0 mostGap); right = number (numbers.Value v (length bs)) }
 
 -- a recording begins so
 abbrev pub begins : List ℕ → Entry → Row
@@ -191,6 +191,12 @@ edges =
     ∷ written 128 (0x80 ∷ 0x01 ∷ [])
     ∷ readAs (0x80 ∷ 0x01 ∷ []) 128
     ∷ begins (0x80 ∷ 0x00 ∷ []) (Broken badNumber 1)
+    -- W-207: a gap up to 34359738367, FF FF FF FF 7F; 80 80 80 80 00, and a fifth group that says that a sixth follows: 16
+    ∷ written 268435456 (0x80 ∷ 0x80 ∷ 0x80 ∷ 0x80 ∷ 0x01 ∷ [])
+    ∷ written 34359738367 (0xFF ∷ 0xFF ∷ 0xFF ∷ 0xFF ∷ 0x7F ∷ [])
+    ∷ readAs (0xFF ∷ 0xFF ∷ 0xFF ∷ 0xFF ∷ 0x7F ∷ []) 34359738367
+    ∷ begins (0x80 ∷ 0x80 ∷ 0x80 ∷ 0x80 ∷ 0x00 ∷ []) (Broken badNumber 4)
+    ∷ begins (0xFF ∷ 0xFF ∷ 0xFF ∷ 0xFF ∷ 0xFF ∷ 0x00 ∷ []) (Broken badNumber 4)
     ∷ []
 
 -- every edge is right

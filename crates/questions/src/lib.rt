@@ -2,20 +2,20 @@
 mod asking;
 mod copying;
 mod names;
-mod numbers;
 mod rows;
+mod values;
 
 pub use asking::AddressAsked;
 pub use asking::LocationAsked;
 pub use names::name;
 pub use names::name_heard;
-pub use numbers::blind;
-pub use numbers::build_week;
-pub use numbers::build_year;
-pub use numbers::cell;
-pub use numbers::kept;
-pub use numbers::led;
-pub use numbers::type_of;
 pub use rows::listed;
 pub use rows::memory_bytes;
 pub use rows::memory_row;
+pub use values::blind;
+pub use values::build_week;
+pub use values::build_year;
+pub use values::cell;
+pub use values::kept;
+pub use values::led;
+pub use values::type_of;

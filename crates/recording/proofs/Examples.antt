@@ -1,9 +1,9 @@
 -- The examples hold: antt computes them. Assumes nothing.
 use mathlib.Core.Path.{refl}
-use Rattle.recording.specs.Number.{readNumber}
-use Rattle.recording.specs.Record.{readRecord}
+use Rattle.numbers.specs.Number.{numberBytes, readNumber}
+use Rattle.recording.specs.Record.{readWithin}
 use Rattle.recording.specs.Statements.{ExamplesHold}
 
 pub examples-hold : ExamplesHold
-unfolding readNumber readRecord
+unfolding numberBytes readNumber readWithin
 examples-hold = refl

@@ -1,60 +1,51 @@
 -- Laws of writing.
---     bytes-none, bytes-last, bytes-more, bytes-length    the bytes of a number, case by case, and how many there are at most
---     record-length                                       how many bytes a record has
---     ranged                                              what a test of the ranges says
---     sets-record                                         a run of stores in the parts that a record has
---     put-out-of-range, put-no-room, put-done             what writing gives, case by case
+--     record-length                              how many bytes a record has
+--     gap-groups, word-groups, count-groups      how many groups its greatest numbers take
+--     ranged                                     what a test of the ranges says
+--     Headed, head-put                           what writing the first two numbers leaves
+--     sets-record                                a run of stores in the parts that a record has
+--     put-out-of-range, put-no-room, put-done    what writing gives, case by case
 -- Assumes nothing.
 use mathlib.Core.Path.{_≡_, refl, sym, ap, _∙_}
-use mathlib.Core.List.{List, [], _∷_, _++_}
-use mathlib.Core.Bool.{true, false, cond}
-use Prim.Native.Nat.{ℕ, zero, suc, _+_, _-_, _*_, _/_, _%_, _≤_, _<_, zero-le}
+use mathlib.Core.List.{List, _∷_, _++_}
+use mathlib.Core.Bool.{true, false}
+use Prim.Native.Nat.{ℕ, suc, _+_, _-_, _*_, _≤_, _<_}
 use native.Mathlib.Numerals.{add-one}
 use native.Mathlib.Omega.{arith}
 use lib.ListN.{length, set, length-append}
 use lib.Seq.{sets}
-use lib.Dec.{ltb, leb}
-use borrow.Author.Tests.{lt-ltb, le-ltb, le-leb, lt-leb, leb-true}
-use Rattle.laws.proofs.Choices.{cond-elim}
+use lib.Dec.{leb}
+use borrow.Author.Tests.{le-leb, lt-leb, leb-true}
 use Rattle.laws.proofs.Testing.{and-both}
 use Rattle.laws.proofs.Stores.{sets-append}
 use Rattle.recording.specs.declared.writes.Put.{Put}
 use Rattle.recording.specs.declared.writes.Put.the-variants.{Wrote, Refused}
 use Rattle.laws.specs.Refusals.{tooShort, badNumber}
 use Rattle.laws.specs.Limits.{mostIdentifier}
-use Rattle.recording.specs.Limits.{mostGap, gapGroups, wordGroups, mostRemote, mostCount}
-use Rattle.recording.specs.Number.{numberBytes}
+use Rattle.recording.specs.Limits.{mostGap, gapGroups, mostWord, wordGroups, mostRemote, mostCount, countGroups}
+use Rattle.numbers.specs.Number.{numberBytes, bytesOf, groupsOf}
+use Rattle.numbers.specs.Write.{putGroups, putInto}
+use Rattle.numbers.proofs.Writing.{put-fits}
 use Rattle.recording.specs.Write.{inRange, recordBytes, putAnswer, putBytes, placed}
 
-pub bytes-none : (left v : ℕ) → left ≡ 0 → numberBytes left v ≡ []
-unfolding numberBytes
-bytes-none left v e = ap (λ (n : ℕ). numberBytes n v) e
-
-bytes-step : (left v : ℕ) → (left ≡ 0 → ⊥) → numberBytes left v ≡ cond (ltb v 128) (v ∷ []) ((v % 128 + 128) ∷ numberBytes (left - 1) (v / 128))
-unfolding numberBytes
-bytes-step left v some =
-    let e : left ≡ suc (left - 1) = omega arith in
-    ap (λ (n : ℕ). numberBytes n v) e
-
-pub bytes-last : (left v : ℕ) → (left ≡ 0 → ⊥) → v < 128 → numberBytes left v ≡ v ∷ []
-bytes-last left v some h = bytes-step left v some ∙ (rw (lt-ltb v 128 h))
-
-pub bytes-more : (left v : ℕ) → (left ≡ 0 → ⊥) → 128 ≤ v → numberBytes left v ≡ (v % 128 + 128) ∷ numberBytes (left - 1) (v / 128)
-bytes-more left v some h = bytes-step left v some ∙ (rw (le-ltb v 128 h))
-
-pub bytes-length : (left v : ℕ) → length (numberBytes left v) ≤ left
-unfolding numberBytes
-bytes-length zero v = zero-le
-bytes-length (suc left) v =
-    let h : length (numberBytes left (v / 128)) ≤ left = bytes-length left (v / 128) in
-    cond-elim (λ (l : List ℕ). length l ≤ suc left) (ltb v 128) (v ∷ []) ((v % 128 + 128) ∷ numberBytes left (v / 128)) (λ _. omega arith) (λ _. omega arith)
-
 pub record-length : (gap identifier remote : ℕ) (ds : List ℕ)
-    → length (recordBytes gap identifier remote ds) ≡ length (numberBytes gapGroups gap) + (length (numberBytes wordGroups (2 * identifier + remote)) + suc (length ds))
+    → length (recordBytes gap identifier remote ds) ≡ length (bytesOf gap) + (length (bytesOf (2 * identifier + remote)) + suc (length ds))
 unfolding recordBytes
 record-length gap identifier remote ds =
-    length-append (numberBytes gapGroups gap) (numberBytes wordGroups (2 * identifier + remote) ++ (length ds ∷ ds))
-    ∙ ap (λ (n : ℕ). length (numberBytes gapGroups gap) + n) (length-append (numberBytes wordGroups (2 * identifier + remote)) (length ds ∷ ds))
+    length-append (bytesOf gap) (bytesOf (2 * identifier + remote) ++ (length ds ∷ ds))
+    ∙ ap (λ (n : ℕ). length (bytesOf gap) + n) (length-append (bytesOf (2 * identifier + remote)) (length ds ∷ ds))
+
+pub gap-groups : groupsOf mostGap ≡ gapGroups
+unfolding numberBytes
+gap-groups = refl
+
+pub word-groups : groupsOf mostWord ≡ wordGroups
+unfolding numberBytes
+word-groups = refl
+
+pub count-groups : groupsOf mostCount ≡ countGroups
+unfolding numberBytes
+count-groups = refl
 
 pub record Ranged (gap identifier remote count : ℕ) : Type 0 where
   pub gap-fits : gap ≤ mostGap
@@ -75,18 +66,40 @@ unfolding inRange
 in-range gap identifier remote count w =
     rw (le-leb gap mostGap (w .gap-fits), le-leb identifier mostIdentifier (w .identifier-fits), le-leb remote mostRemote (w .remote-fits), le-leb count mostCount (w .few))
 
--- the answers a and b of the first two writes are where the next begins
-pub sets-record : (out ds : List ℕ) (gap identifier remote a b : ℕ) (o₁ o₂ o₃ : List ℕ)
-    → a ≡ 0 + length (numberBytes gapGroups gap) → b ≡ a + length (numberBytes wordGroups (2 * identifier + remote))
-    → o₁ ≡ sets out 0 (numberBytes gapGroups gap) → o₂ ≡ sets o₁ a (numberBytes wordGroups (2 * identifier + remote))
-    → o₃ ≡ sets (set o₂ b (length ds)) (b + 1) ds → o₃ ≡ sets out 0 (recordBytes gap identifier remote ds)
+-- what writing the first two numbers leaves, where the record has room: the counts of their groups a and n, the buffers o₁ and o₂
+pub record Headed (out : List ℕ) (gap identifier remote count a n : ℕ) (o₁ o₂ : List ℕ) : Type 0 where
+  pub first : a ≡ groupsOf gap
+  pub second : n ≡ groupsOf (2 * identifier + remote)
+  pub one : o₁ ≡ sets out 0 (bytesOf gap)
+  pub two : o₂ ≡ sets o₁ a (bytesOf (2 * identifier + remote))
+  pub same : length o₂ ≡ length out
+  pub room : a + n + suc count ≤ length out
+
+pub head-put : (out ds : List ℕ) (gap identifier remote a n : ℕ) (o₁ o₂ : List ℕ) → length (recordBytes gap identifier remote ds) ≤ length out
+    → a ≡ putGroups out 0 gap → o₁ ≡ putInto out 0 gap → length o₁ ≡ length out
+    → n ≡ putGroups o₁ a (2 * identifier + remote) → o₂ ≡ putInto o₁ a (2 * identifier + remote) → length o₂ ≡ length o₁
+    → Headed out gap identifier remote (length ds) a n o₁ o₂
+head-put out ds gap identifier remote a n o₁ o₂ fits ea e₁ l₁ en e₂ l₂ =
+    let long = record-length gap identifier remote ds in
+    let p = put-fits out 0 gap (omega arith) in
+    let first : a ≡ groupsOf gap = ea ∙ p .0 in
+    let q = put-fits o₁ a (2 * identifier + remote) (omega arith) in
+    record { first = first; second = en ∙ q .0; one = e₁ ∙ p .1; two = e₂ ∙ q .1; same = l₂ ∙ l₁; room = omega (arith, en ∙ q .0) }
+
+-- the answers a and n of the first two writes are how many bytes they wrote
+pub sets-record : (out ds : List ℕ) (gap identifier remote a n : ℕ) (o₁ o₂ o₃ : List ℕ)
+    → a ≡ groupsOf gap → n ≡ groupsOf (2 * identifier + remote)
+    → o₁ ≡ sets out 0 (bytesOf gap) → o₂ ≡ sets o₁ a (bytesOf (2 * identifier + remote))
+    → o₃ ≡ sets (set o₂ (a + n) (length ds)) (a + n + 1) ds → o₃ ≡ sets out 0 (recordBytes gap identifier remote ds)
 unfolding recordBytes
-sets-record out ds gap identifier remote a b o₁ o₂ o₃ ea eb e₁ e₂ e₃ =
-    let G : List ℕ = numberBytes gapGroups gap in
-    let W : List ℕ = numberBytes wordGroups (2 * identifier + remote) in
+sets-record out ds gap identifier remote a n o₁ o₂ o₃ ea en e₁ e₂ e₃ =
+    let G : List ℕ = bytesOf gap in
+    let W : List ℕ = bytesOf (2 * identifier + remote) in
     let D : List ℕ = length ds ∷ ds in
-    e₃ ∙ ap (λ (k : ℕ). sets (set o₂ b (length ds)) k ds) (add-one b)
-    ∙ sym (sets-append G (W ++ D) out 0 ∙ (λ i. sets (sym e₁ i) (sym ea i) (W ++ D)) ∙ sets-append W D o₁ a ∙ (λ i. sets (sym e₂ i) (sym eb i) D))
+    let start : a ≡ 0 + length G = omega arith in
+    let past : a + n ≡ a + length W = omega arith in
+    e₃ ∙ ap (λ (k : ℕ). sets (set o₂ (a + n) (length ds)) k ds) (add-one (a + n))
+    ∙ sym (sets-append G (W ++ D) out 0 ∙ (λ i. sets (sym e₁ i) (sym start i) (W ++ D)) ∙ sets-append W D o₁ a ∙ (λ i. sets (sym e₂ i) (sym past i) D))
 
 module _ (b : List ℕ) (at gap identifier remote : ℕ) (ds : List ℕ) where
   abbrev Given : Put → List ℕ → Type 0

@@ -16,12 +16,16 @@ begins bs e = record { given = readRecord bs 0; right = e }
 
 abbrev pub examples : List Row
 examples =
-    -- the empty recording; a number cut off; the greatest gap, and then nothing
+    -- the empty recording; a number cut off
     begins [] End ∷
     begins (0x80 ∷ []) (cutOffAt 1) ∷
-    begins (0xFF ∷ 0xFF ∷ 0xFF ∷ 0x7F ∷ []) (cutOffAt 4) ∷
-    -- a fourth group of a gap that says that a fifth follows
-    begins (0xFF ∷ 0xFF ∷ 0xFF ∷ 0xFF ∷ 0x00 ∷ []) (badNumberAt 3) ∷
+    -- the greatest gap of four groups, one more, and the greatest
+    begins (0xFF ∷ 0xFF ∷ 0xFF ∷ 0x7F ∷ 0x00 ∷ 0x00 ∷ []) (Record 268435455 0 0 6 0 6) ∷
+    begins (0x80 ∷ 0x80 ∷ 0x80 ∷ 0x80 ∷ 0x01 ∷ 0x00 ∷ 0x00 ∷ []) (Record 268435456 0 0 7 0 7) ∷
+    begins (0xFF ∷ 0xFF ∷ 0xFF ∷ 0xFF ∷ 0x7F ∷ 0x00 ∷ 0x00 ∷ []) (Record 34359738367 0 0 7 0 7) ∷
+    -- a fifth group that says that a sixth follows, and one that is not shortest
+    begins (0x80 ∷ 0x80 ∷ 0x80 ∷ 0x80 ∷ 0x80 ∷ 0x01 ∷ []) (badNumberAt 4) ∷
+    begins (0x80 ∷ 0x80 ∷ 0x80 ∷ 0x80 ∷ 0x00 ∷ []) (badNumberAt 4) ∷
     -- the greatest word, 2047 and remote, and one above it
     begins (0x00 ∷ 0xFF ∷ 0x1F ∷ 0x00 ∷ []) (Record 0 2047 1 4 0 4) ∷
     begins (0x00 ∷ 0x80 ∷ 0x20 ∷ 0x00 ∷ []) (badNumberAt 2) ∷

@@ -1,5 +1,4 @@
 pub mod Limits
-pub mod Number
 pub mod Record
 pub mod Write
 pub mod Window

@@ -2,13 +2,17 @@
 use Prim.Native.Nat.{ℕ, _+_, _*_}
 use Rattle.laws.specs.Limits.{mostIdentifier, mostBytes}
 
--- a gap in ms, up to
+-- a gap up to; the unit is not in the file
 abbrev pub mostGap : ℕ
-mostGap = 268435455
+mostGap = 34359738367
 
 -- in so many groups
 abbrev pub gapGroups : ℕ
-gapGroups = 4
+gapGroups = 5
+
+-- in older recordings up to, in four groups
+abbrev pub oldMostGap : ℕ
+oldMostGap = 268435455
 
 -- a remote flag up to
 abbrev pub mostRemote : ℕ

@@ -9,8 +9,8 @@ use Rattle.recording.specs.declared.records.Entry.the-variants.{Record, 
 use Rattle.recording.specs.declared.writes.Put.the-variants.{Wrote}
 use Rattle.laws.specs.Refusals.{cutOff, badNumber}
 use Rattle.laws.specs.Limits.{AllBytes}
-use Rattle.recording.specs.Limits.{longest}
-use Rattle.recording.specs.Record.{readRecord}
+use Rattle.recording.specs.Limits.{longest, oldMostGap}
+use Rattle.recording.specs.Record.{readWithin, readRecord}
 use Rattle.recording.specs.Write.{inRange, recordBytes, putAnswer, putBytes}
 use Rattle.recording.specs.Window.{settled, isRecord, further}
 use Rattle.recording.specs.Examples.{examples, Row}
@@ -84,6 +84,10 @@ LeftoverIsShort = (s : List ℕ) (at : ℕ) → settled (readRecord s at) ≡ fa
 -- what is found in a part that begins further on is found there in the whole
 abbrev pub WindowMoves : Type 0
 WindowMoves = (p s : List ℕ) (at : ℕ) → readRecord (p ++ s) (length p + at) ≡ further (length p) (readRecord s at)
+
+-- an older recording reads as before: whatever its rule finds, 16 aside, is found today
+abbrev pub OldRecordingsRead : Type 0
+OldRecordingsRead = (s : List ℕ) (at : ℕ) → ((p : ℕ) → readWithin oldMostGap s at ≡ Broken badNumber p → ⊥) → readRecord s at ≡ readWithin oldMostGap s at
 
 -- every example is right
 abbrev pub ExamplesHold : Type 0

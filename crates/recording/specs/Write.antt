@@ -9,8 +9,8 @@ use Rattle.recording.specs.declared.writes.Put.the-variants.{Wrote, Refu
 use Rattle.laws.specs.Answers.{Numbers, value, refusal}
 use Rattle.laws.specs.Refusals.{tooShort, badNumber}
 use Rattle.laws.specs.Limits.{mostIdentifier}
-use Rattle.recording.specs.Limits.{mostGap, gapGroups, wordGroups, mostRemote, mostCount}
-use Rattle.recording.specs.Number.{numberBytes}
+use Rattle.recording.specs.Limits.{mostGap, mostRemote, mostCount}
+use Rattle.numbers.specs.Number.{bytesOf}
 
 -- every number of a record is in its range
 unfoldable pub inRange : ℕ → ℕ → ℕ → ℕ → Bool
@@ -18,7 +18,7 @@ inRange gap identifier remote count = leb gap mostGap && (leb identifier mostIde
 
 -- the bytes of a record
 unfoldable pub recordBytes : ℕ → ℕ → ℕ → List ℕ → List ℕ
-recordBytes gap identifier remote ds = numberBytes gapGroups gap ++ (numberBytes wordGroups (2 * identifier + remote) ++ (length ds ∷ ds))
+recordBytes gap identifier remote ds = bytesOf gap ++ (bytesOf (2 * identifier + remote) ++ (length ds ∷ ds))
 
 -- of three: a number is out of range; else `bytes` have no room from `at` on in a buffer of n bytes; else they are put there
 abbrev pub putCase : {A : Type 0} → Bool → ℕ → ℕ → List ℕ → A → A → A → A

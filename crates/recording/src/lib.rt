@@ -1,6 +1,5 @@
-// Recordings: seven-bit numbers, and records with their reader and their writer.
+// Recordings: records, with their reader and their writer.
 mod limits;
-mod numbers;
 mod quick;
 mod records;
 mod writes;

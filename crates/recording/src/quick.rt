@@ -1,15 +1,17 @@
 // The quick way to a record: where the longest record has room no end needs a test, and nearly every gap and word has one group or two.
-// In any doubt it is not taken, and the reader of groups judges from the record's first byte on.
+// In any doubt it is not taken, and the general way judges from the record's first byte on.
 use crate::limits::LONGEST;
-use crate::limits::MOST_GAP;
 use crate::limits::MOST_WORD;
 ghost use mathlib.Core.Path.{_≡_};
-ghost use Prim.Native.Nat.{ℕ, _+_, _/_, _%_, _<_, _≤_};
+ghost use Prim.Native.Nat.{_+_, _-_, _/_, _%_, _<_, _≤_};
 ghost use lib.ListN.{length};
-ghost use Rattle.recording.specs.declared.numbers.Number.the-variants.{Value};
+ghost use Rattle.numbers.specs.declared.reads.Found.the-variants.{Value};
 ghost use Rattle.recording.specs.Limits.{mostCount, countGroups};
-ghost use Rattle.recording.specs.Number.{numberAt};
+ghost use Rattle.numbers.specs.Number.{numberAt};
 ghost use Rattle.recording.specs.Record.{readCount, readRecord};
+
+// The greatest number of two groups.
+const MOST_SHORT: u32 = 16383;
 
 // A number of one group or two, and the offset past it: 0 where there is no such number.
 struct Short {
@@ -41,10 +43,10 @@ fn no_head() -> Head
 }
 
 // The number at `at`, of at most `most`, where it has one group or two.
-fn quick_number(s: &[u8], at: usize, most: u32) -> Short
+fn short_number(s: &[u8], at: usize, most: u32) -> Short
     requires { ⌜ at + 1 < length (now s) ⌝ }
     requires { ⌜ 128 ≤ most ⌝ }
-    ensures { λ r. ⌜ ((left : ℕ) → 1 < left → 0 < r .next → Value (r .value) (r .next) ≡ numberAt (now (s .entry)) left most at) ⌝ }
+    ensures { λ r. ⌜ (0 < r .next → Value (r .value) (r .next - at) ≡ numberAt (now (s .entry)) at most) ⌝ }
 {
     let b = s[at] as u32;
     let next = at + 1;
@@ -78,11 +80,11 @@ pub(crate) fn quick_head(s: &[u8], at: usize) -> Head
     if s.len() - at < LONGEST {
         return no_head();
     }
-    let gap = quick_number(s, at, MOST_GAP as u32);
+    let gap = short_number(s, at, MOST_SHORT);
     if gap.next == 0 {
         return no_head();
     }
-    let word = quick_number(s, gap.next, MOST_WORD as u32);
+    let word = short_number(s, gap.next, MOST_WORD as u32);
     Head {
         gap: gap.value,
         word: word.value,

@@ -1,14 +1,11 @@
 // The reader of records: gap, word (2 × identifier + remote flag), count, data.
-use crate::limits::COUNT_GROUPS;
-use crate::limits::GAP_GROUPS;
 use crate::limits::MOST_COUNT;
 use crate::limits::MOST_GAP;
 use crate::limits::MOST_WORD;
-use crate::limits::WORD_GROUPS;
-use crate::numbers::Number;
-use crate::numbers::read_groups;
 use crate::quick::quick_head;
 use laws::MOST_BYTES;
+use numbers::Found;
+use numbers::number;
 ghost use mathlib.Core.Path.{_≡_};
 ghost use Prim.Native.Nat.{_<_};
 ghost use lib.ListN.{length};
@@ -56,8 +53,9 @@ fn bad_number(offset: usize) -> Entry
 fn read_count(s: &[u8], gap: u64, identifier: u32, remote: u32, at: usize) -> Entry
     ensures { λ r. ⌜ r ≡ readCount (now (s .entry)) gap identifier remote at ⌝ }
 {
-    match read_groups(s, at, COUNT_GROUPS, MOST_COUNT) {
-        Number::Value(count, start) => {
+    match number(s, at, MOST_COUNT) {
+        Found::Value(count, groups) => {
+            let start = at + groups;
             let len = count as usize;
             if len <= s.len() - start {
                 Entry::Record {
@@ -72,8 +70,8 @@ fn read_count(s: &[u8], gap: u64, identifier: u32, remote: u32, at: usize) -> En
                 cut_off(s.len())
             }
         }
-        Number::Ends => cut_off(s.len()),
-        Number::Bad(p) => bad_number(p),
+        Found::Ends => cut_off(s.len()),
+        Found::Bad(p) => bad_number(p),
     }
 }
 
@@ -81,10 +79,16 @@ fn read_count(s: &[u8], gap: u64, identifier: u32, remote: u32, at: usize) -> En
 fn read_word(s: &[u8], gap: u64, at: usize) -> Entry
     ensures { λ r. ⌜ r ≡ readWord (now (s .entry)) gap at ⌝ }
 {
-    match read_groups(s, at, WORD_GROUPS, MOST_WORD) {
-        Number::Value(word, next) => read_count(s, gap, (word / 2) as u32, (word % 2) as u32, next),
-        Number::Ends => cut_off(s.len()),
-        Number::Bad(p) => bad_number(p),
+    match number(s, at, MOST_WORD) {
+        Found::Value(word, groups) => read_count(
+            s,
+            gap,
+            (word / 2) as u32,
+            (word % 2) as u32,
+            at + groups,
+        ),
+        Found::Ends => cut_off(s.len()),
+        Found::Bad(p) => bad_number(p),
     }
 }
 
@@ -93,10 +97,10 @@ fn read_edge(s: &[u8], at: usize) -> Entry
     requires { ⌜ at < length (now s) ⌝ }
     ensures { λ r. ⌜ r ≡ readRecord (now (s .entry)) at ⌝ }
 {
-    match read_groups(s, at, GAP_GROUPS, MOST_GAP) {
-        Number::Value(gap, next) => read_word(s, gap, next),
-        Number::Ends => cut_off(s.len()),
-        Number::Bad(p) => bad_number(p),
+    match number(s, at, MOST_GAP) {
+        Found::Value(gap, groups) => read_word(s, gap, at + groups),
+        Found::Ends => cut_off(s.len()),
+        Found::Bad(p) => bad_number(p),
     }
 }
 

@@ -31,7 +31,7 @@ use Rattle.replay.specs.Text.{Fits, Written}
 use Rattle.replay.specs.Listing.{listingText, listingAnswer, listingBytes}
 use Rattle.replay.specs.TextStatements.{lineRoom, PutIsInside}
 use Rattle.replay.specs.Statements.{AllIsReplay, CallIsTurn}
-use Rattle.recording.proofs.Reading.{different}
+use Rattle.numbers.proofs.Reading.{different}
 use Rattle.replay.proofs.Texts.{room-is-enough}
 use Rattle.replay.proofs.Listings.{listing-fits}
 

@@ -4,6 +4,6 @@ use Rattle.recording.specs.declared.writes.Put.{Put}
 use Rattle.recording.specs.Write.{putNumbers}
 use Rattle.velbus.specs.Words.{word}
 
--- the count of the bytes written (a record has 15 at most), or the refusal
+-- the count of the bytes written (a record has 16 at most), or the refusal
 abbrev pub putWord : Put → ℕ
 putWord p = word (putNumbers p)

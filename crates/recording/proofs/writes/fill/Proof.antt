@@ -5,14 +5,9 @@ use native.Mathlib.Omega.{arith}
 use borrow.Author.Needs.{needs}
 use lib.ListN.{length, set, length-set}
 use Rattle.laws.proofs.Copying.{copied-all}
-use Rattle.recording.proofs.Writing.{ranged, record-length, sets-record}
+use Rattle.recording.proofs.Writing.{ranged, record-length, Headed, head-put, sets-record}
 use Rattle.recording.proofs.writes.fill.Statement.{statement}
 use Rattle.recording.proofs.writes.fill.Tie as tie
-
-put-number-requires : tie.Need-put-number-requires
-put-number-requires c κs =
-    let a = c .before .before .before .args in
-    omega (arith, record-length (a .gap) (a .identifier) (a .remote) (a .«data» .now))
 
 mul-put-number : tie.Need-mul-put-number
 mul-put-number c =
@@ -26,10 +21,21 @@ add-put-number c =
     let r = ranged (a .gap) (a .identifier) (a .remote) (length (a .«data» .now)) (c .before .before .before .before .before .before .before .pre .0) in
     omega arith
 
-put-number-requires-2 : tie.Need-put-number-requires-2
-put-number-requires-2 c κs =
-    let a = c .before .before .before .before .before .before .before .args in
-    omega (arith, record-length (a .gap) (a .identifier) (a .remote) (a .«data» .now), c .before .before .before .put-number .ensures .0, c .before .before .before .put-number .kept .0)
+-- what the two numbers left
+head : (n : tie.After-put-number2) →
+    let p = n .before .before .before .before .put-number in
+    let q = n .put-number2 in
+    let a = n .before .before .before .before .before .before .before .before .args in
+    Headed (a .out .now) (a .gap) (a .identifier) (a .remote) (length (a .«data» .now)) (p .result) (q .result) (p .last .0) (q .last .0)
+head n =
+    let p = n .before .before .before .before .put-number in
+    let q = n .put-number2 in
+    let a = n .before .before .before .before .before .before .before .before .args in
+    head-put (a .out .now) (a .«data» .now) (a .gap) (a .identifier) (a .remote) (p .result) (q .result) (p .last .0) (q .last .0) (n .before .before .before .before .before .before .before .before .pre .1)
+    (p .ensures .0) (p .ensures .1) (p .kept .0) (q .ensures .0) (q .ensures .1) (q .kept .0)
+
+add-b : tie.Need-add-b
+add-b c = let h = head (c .before .before) in omega arith
 
 cast-out : tie.Need-cast-out
 cast-out c =
@@ -38,19 +44,13 @@ cast-out c =
     omega arith
 
 slice-write-out : tie.Need-slice-write-out
-slice-write-out c =
-    let a = c .before .before .before .before .before .before .before .before .before .before .args in
-    let n = record-length (a .gap) (a .identifier) (a .remote) (a .«data» .now) in
-    omega (arith, c .before .before .put-number2 .ensures .0, c .before .before .put-number2 .kept .0, c .before .before .before .before .before .before .put-number .ensures .0, c .before .before .before .before .before .before .put-number .kept .0)
+slice-write-out c = let h = head (c .before .before) in omega arith
 
 add-copy-in : tie.Need-add-copy-in
-add-copy-in c =
-    let a = c .before .before .before .before .before .before .before .before .before .before .before .args in
-    let n = record-length (a .gap) (a .identifier) (a .remote) (a .«data» .now) in
-    omega (arith, c .before .before .before .put-number2 .ensures .0, c .before .before .before .put-number2 .kept .0, c .before .before .before .before .before .before .before .put-number .ensures .0, c .before .before .before .before .before .before .before .put-number .kept .0)
+add-copy-in c = let h = head (c .before .before .before) in omega arith
 
 same-length : tie.Need-same-length
-same-length c = c .before .before .copy-in .kept .0 ∙ (simp length-set (c .before .before .before .before .before .before .put-number2 .kept .0 ∙ c .before .before .before .before .before .before .before .before .before .before .put-number .kept .0))
+same-length c = let h = head (c .before .before .before .before .before .before) in c .before .before .copy-in .kept .0 ∙ (simp length-set (h .same))
 
 returns : tie.Need-returns
 returns c =
@@ -58,20 +58,22 @@ returns c =
     let p = c .before .before .before .before .before .before .before .before .before .before .put-number in
     let q = c .before .before .before .before .before .before .put-number2 in
     let d = c .before .before .copy-in in
-    let n = record-length (a .gap) (a .identifier) (a .remote) (a .«data» .now) in
+    let h = head (c .before .before .before .before .before .before) in
+    let at = p .result + q .result in
     sets-record (a .out .now) (a .«data» .now) (a .gap) (a .identifier) (a .remote) (p .result) (q .result) (p .last .0) (q .last .0) (d .last .0)
-    (p .ensures .0) (q .ensures .0) (p .ensures .1) (q .ensures .1)
-    (d .ensures ∙ copied-all (set (q .last .0) (q .result) (length (a .«data» .now))) (q .result + 1) (a .«data» .now) (simp length-set (omega (arith, q .ensures .0, q .kept .0, p .ensures .0, p .kept .0))))
+    (h .first) (h .second) (h .one) (h .two)
+    (d .ensures ∙ copied-all (set (q .last .0) at (length (a .«data» .now))) (at + 1) (a .«data» .now) (simp length-set (omega arith)))
 
 pub fill-spec : {M : Type 1} → statement M
 fill-spec =
     tie.close
     (tie.spec
-    put-number-requires
+    (λ c κs. search needs)
     mul-put-number
     add-put-number
     (λ c. search needs)
-    put-number-requires-2
+    (λ c κs. search needs)
+    add-b
     cast-out
     slice-write-out
     add-copy-in

@@ -3,8 +3,9 @@ use Prim.Native.Nat.{_+_, _*_}
 use native.Mathlib.Omega.{arith}
 use borrow.Author.Needs.{needs}
 use lib.ListN.{length}
-use Rattle.recording.specs.Limits.{gapGroups, wordGroups}
-use Rattle.recording.proofs.Writing.{ranged, bytes-length, record-length}
+use Rattle.numbers.specs.Number.{mostGroups}
+use Rattle.numbers.proofs.Writing.{bytes-length}
+use Rattle.recording.proofs.Writing.{ranged, record-length}
 use Rattle.recording.proofs.writes.record_size.Statement.{statement}
 use Rattle.recording.proofs.writes.record_size.Tie as tie
 
@@ -22,18 +23,18 @@ add-number-size c =
 add-result : tie.Need-add-result
 add-result c =
     let a = c .before .before .before .args in
-    omega (arith, c .number-size2 .ensures, c .before .number-size .ensures, bytes-length gapGroups (a .gap), bytes-length wordGroups (2 * a .identifier + a .remote))
+    omega (arith, c .number-size2 .ensures, c .before .number-size .ensures, bytes-length mostGroups (a .gap), bytes-length mostGroups (2 * a .identifier + a .remote))
 
 add-result-2 : tie.Need-add-result-2
 add-result-2 c =
     let a = c .before .before .before .args in
-    omega (arith, c .number-size2 .ensures, c .before .number-size .ensures, bytes-length gapGroups (a .gap), bytes-length wordGroups (2 * a .identifier + a .remote))
+    omega (arith, c .number-size2 .ensures, c .before .number-size .ensures, bytes-length mostGroups (a .gap), bytes-length mostGroups (2 * a .identifier + a .remote))
 
 add-result-3 : tie.Need-add-result-3
 add-result-3 c =
     let a = c .before .before .before .args in
     let r = ranged (a .gap) (a .identifier) (a .remote) (length (a .«data» .now)) (c .before .before .before .pre) in
-    omega (arith, c .number-size2 .ensures, c .before .number-size .ensures, bytes-length gapGroups (a .gap), bytes-length wordGroups (2 * a .identifier + a .remote))
+    omega (arith, c .number-size2 .ensures, c .before .number-size .ensures, bytes-length mostGroups (a .gap), bytes-length mostGroups (2 * a .identifier + a .remote))
 
 returns : tie.Need-returns
 returns c =

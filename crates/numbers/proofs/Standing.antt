@@ -1,0 +1,60 @@
+-- Laws of the quick way.
+--     Stands, stands-last, stands-more    a number stands at an offset: its last group, and a group before the rest
+--     stands-two-more                     two groups before the rest
+--     stood, taken                        where it is allowed, it is what the reader of groups finds
+--     nothing-found                       where the quick way found none
+-- Assumes nothing.
+use mathlib.Core.Path.{_≡_, refl, ap, _∙_}
+use mathlib.Core.List.{List}
+use Prim.Native.Nat.{ℕ, suc, _+_, _-_, _*_, _/_, _≤_, _<_}
+use native.Mathlib.Omega.{arith}
+use lib.ListN.{length, getD}
+use borrow.Author.Tests.{ne-eqb}
+use Rattle.numbers.specs.declared.reads.Found.the-variants.{Value}
+use Rattle.numbers.specs.Number.{mostGroups, groupsOf, numberAt}
+use Rattle.numbers.specs.Statements.{most64}
+use Rattle.numbers.proofs.Reading.{groupsAt, number-last, number-joined}
+use Rattle.numbers.proofs.Writing.{holds, groups-hold}
+
+-- whatever is allowed, if only v is, and as many groups as hold it: the number at `at` is v
+abbrev pub Stands : List ℕ → ℕ → ℕ → ℕ → Type 0
+Stands s at v groups = (left most : ℕ) → 0 < left → most < holds left → v ≤ most → Value v groups ≡ groupsAt s left most at
+
+-- a group at `at`, where there is one
+module _ (s : List ℕ) (at b : ℕ) (inside : at < length s) (byte : b ≡ getD s at 0) where
+  pub stands-last : b < 128 → Stands s at b 1
+  stands-last last left most some enough fits = number-last left most at s b inside (λ e. omega arith) byte fits last
+
+  pub stands-more : (next v groups w n : ℕ) → next ≡ at + 1 → w ≡ b - 128 + 128 * v → n ≡ groups + 1 → 128 ≤ b → 0 < v → Stands s next v groups → Stands s at w n
+  stands-more next v groups w n on value count more rest stands left most some enough fits =
+      let m : ℕ = (most - (b - 128)) / 128 in
+      let two : left ≡ 1 → ⊥ = λ e. let one : holds left ≡ 128 = ap holds e in omega arith in
+      let one-more : left ≡ suc (left - 1) = omega arith in
+      let fewer : holds left ≡ 128 * holds (left - 1) = ap holds one-more in
+      (λ i. Value (value i) (count i))
+      ∙ (rw (ne-eqb v 0 (λ e. omega arith)) at
+      (number-joined left most at s b inside (λ e. omega arith) byte (omega arith) more two
+      (stands (left - 1) m (omega arith) (omega arith) (omega arith) ∙ ap (groupsAt s (left - 1) m) on) refl))
+
+-- two groups before the rest
+pub stands-two-more : (s : List ℕ) (at a b : ℕ) → at + 1 < length s → a ≡ getD s at 0 → b ≡ getD s (at + 1) 0 → 128 ≤ a → 128 ≤ b
+    → (next v groups w n : ℕ) → next ≡ at + 2 → w ≡ a - 128 + 128 * (b - 128) + 16384 * v → n ≡ groups + 2 → 0 < v → Stands s next v groups → Stands s at w n
+stands-two-more s at a b inside first second more more₂ next v groups w n on value count some stands =
+    stands-more s at a (omega arith) first (at + 1) (b - 128 + 128 * v) (groups + 1) w n refl (omega arith) (omega arith) more (omega arith)
+    (stands-more s (at + 1) b inside second next v groups (b - 128 + 128 * v) (groups + 1) (omega arith) refl refl more₂ some stands)
+
+pub stood : (s : List ℕ) (at most v groups : ℕ) → most ≤ most64 → v ≤ most → Stands s at v groups → Value v groups ≡ numberAt s at most
+stood s at most v groups small fits stands =
+    let held = groups-hold mostGroups most (omega arith) (omega arith) in
+    stands (groupsOf most) most (held .0) (held .1) fits
+
+-- the quick way's answer, of `value` and `groups`, where it has any groups and is allowed
+pub taken : (s : List ℕ) (at most value groups last : ℕ) {v n : ℕ} → (0 < n → (v ≡ value) × (n ≡ groups) × (0 < last) × (value ≤ most)) → most ≤ most64
+    → (0 < last → Stands s at value groups) → 0 < n → Value v n ≡ numberAt s at most
+taken s at most value groups last says small stands some =
+    let w = says some in
+    (λ i. Value (w .0 i) (w .1 i)) ∙ stood s at most value groups small (w .3) (stands (w .2))
+
+-- no groups say that the quick way found nothing: then what it found may be said to be anything
+pub nothing-found : {A : Type 0} {n : ℕ} → n ≡ 0 → 0 < n → A
+nothing-found e some = absurd (omega arith)
