@@ -19,7 +19,8 @@
 enum {
     LONGEST_LINE = 256,                 /* characters of a line of the file, with its end */
     MOST_BYTES = 2 * VELBUS_DATA_SIZE,  /* of a line; more than a frame has, so that the library is the one to refuse them */
-    CELLS_IN_LINE = 16                  /* of the sheet */
+    CELLS_IN_LINE = 16,                 /* of the sheet */
+    DEPTH = 16                          /* of the way back */
 };
 
 static uint8_t picture[VELBUS_PICTURE_SIZE];
@@ -40,7 +41,7 @@ static const char *refusal_text(uint32_t number)
         [VELBUS_BAD_FIELD] = "field not allowed",
         [VELBUS_NO_ROOM] = "no room for another module",
         [VELBUS_NOTHING_KEPT] = "no step back is kept",
-        [VELBUS_NO_SUCH_PLACE] = "no such cell, name, LED or blind on this type",
+        [VELBUS_NO_SUCH_PLACE] = "no such cell, name, LED or blind on this type, or no such depth",
         [VELBUS_TOO_SHORT] = "buffer too short, or a place beyond its end",
         [VELBUS_NAME_NOT_WHOLE] = "name not whole",
         [VELBUS_CUT_OFF] = "recording ends inside a record",
@@ -261,7 +262,7 @@ int main(int argc, char **argv)
         perror(argv[1]);
         return 1;
     }
-    if (refused("fresh", velbus_fresh(picture, sizeof picture)))
+    if (refused("fresh", velbus_fresh_depth(picture, sizeof picture, DEPTH)))
         return 1;
     if (hear_file(file)) {
         fprintf(stderr, "%s: not read to its end\n", argv[1]);

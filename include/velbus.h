@@ -22,7 +22,7 @@
 extern "C" {
 #endif
 
-#define VELBUS_VERSION "1.2.0"    /* velbus.pc takes it from here */
+#define VELBUS_VERSION "2.0.0"    /* velbus.pc takes it from here */
 
 /* ---- refusal numbers ---- */
 #define VELBUS_BAD_IDENTIFIER 1   /* identifier above 2047, or SID0 is 1 */
@@ -36,7 +36,7 @@ extern "C" {
 #define VELBUS_BAD_FIELD 9        /* a field is not allowed */
 #define VELBUS_NO_ROOM 10         /* the address is not listed, and 16 modules are */
 #define VELBUS_NOTHING_KEPT 11    /* a step back with none kept */
-#define VELBUS_NO_SUCH_PLACE 12   /* the type has no such cell, name, LED or blind */
+#define VELBUS_NO_SUCH_PLACE 12   /* the type has no such cell, name, LED or blind; or no way back is so deep */
 #define VELBUS_TOO_SHORT 13       /* a buffer is too short, or a place lies beyond its end */
 #define VELBUS_NAME_NOT_WHOLE 14  /* a character of the name was not heard */
 #define VELBUS_CUT_OFF 15         /* the recording ends inside a record */
@@ -53,7 +53,8 @@ enum { VELBUS_LED_OFF = 0, VELBUS_LED_ON = 1, VELBUS_LED_SLOW = 2, VELBUS_LED_FA
 enum { VELBUS_BLIND_OFF = 0, VELBUS_BLIND_UP = 1, VELBUS_BLIND_DOWN = 2 };
 
 #define VELBUS_MODULES 16         /* the most modules of a picture */
-#define VELBUS_PICTURE_SIZE 17456 /* bytes of a picture; velbus_picture_size() gives the same number */
+#define VELBUS_DEPTH 64           /* the greatest depth of a picture's way back, and the one that naming none gives */
+#define VELBUS_PICTURE_SIZE 18992 /* bytes of a picture; velbus_picture_size() gives the same number */
 #define VELBUS_MESSAGE_SIZE 20    /* bytes of a message */
 #define VELBUS_FRAME_SIZE 12      /* bytes of a written frame */
 #define VELBUS_DATA_SIZE 8        /* the most data bytes of a frame */
@@ -127,8 +128,11 @@ uint32_t velbus_write(uint32_t type, const uint8_t *message, size_t message_len,
 /* The bytes that a picture needs, as a bare number. */
 uint32_t velbus_picture_size(void);
 
-/* Makes the bytes a fresh picture: no module, nothing kept. */
+/* Makes the bytes a fresh picture: no module, nothing kept, and a way back of VELBUS_DEPTH steps. */
 uint32_t velbus_fresh(uint8_t *picture, size_t picture_len);
+
+/* The same with a way back of so many steps, 0 to VELBUS_DEPTH; with 0 no step back is ever granted. Refuses 12 for more. */
+uint32_t velbus_fresh_depth(uint8_t *picture, size_t picture_len, uint32_t depth);
 
 /* Hears a frame. Refuses as velbus_read does with the picture's own type for the address, then 10. */
 uint32_t velbus_hear(uint8_t *picture, size_t picture_len, uint32_t identifier, uint32_t remote, const uint8_t *data,

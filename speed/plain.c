@@ -73,7 +73,7 @@ static inline struct plain_step *next_step(struct plain_picture *p)
 {
     struct plain_step *s = &p->step[p->next];
     p->next = (uint8_t)((p->next + 1) % PLAIN_DEPTH);
-    p->kept = (uint8_t)(p->kept + (p->kept < PLAIN_DEPTH));
+    p->kept = (uint8_t)(p->kept + (p->kept < p->depth));
     return s;
 }
 
@@ -107,11 +107,15 @@ uint32_t plain_step_back(struct plain_picture *p)
 
 /* ---- modules ---- */
 
-void plain_fresh(struct plain_picture *p)
+uint32_t plain_fresh(struct plain_picture *p, uint32_t depth)
 {
+    if (depth > PLAIN_DEPTH)
+        return refuse(NO_SUCH_PLACE);
     p->modules = p->kept = p->next = 0;
+    p->depth = (uint8_t)depth;
     memset(p->slot, PLAIN_MODULES, sizeof p->slot);
     p->module[PLAIN_MODULES].kind = PLAIN_NO_MODULE;
+    return 0;
 }
 
 static void blank(struct plain_module *m, unsigned kind, unsigned address)

@@ -7,7 +7,7 @@
 #include <stddef.h>
 #include <stdint.h>
 
-enum { PLAIN_MODULES = 16, PLAIN_DEPTH = 16, PLAIN_CELLS = 256, PLAIN_NAMES = 8, PLAIN_NAME_SIZE = 16 };
+enum { PLAIN_MODULES = 16, PLAIN_DEPTH = 64, PLAIN_CELLS = 256, PLAIN_NAMES = 8, PLAIN_NAME_SIZE = 16 };
 enum { PLAIN_UNKNOWN = 256 };
 enum { PLAIN_RUN = 16 }; /* the most bytes that one frame changes, but for an entry */
 
@@ -38,12 +38,13 @@ struct plain_picture {
     uint8_t modules;
     uint8_t kept;
     uint8_t next;
+    uint8_t depth; /* at most PLAIN_DEPTH */
     uint8_t slot[256];                             /* of each address; PLAIN_MODULES where none is listed */
     struct plain_module module[PLAIN_MODULES + 1]; /* the last stands for every address that is not listed */
     struct plain_step step[PLAIN_DEPTH];
 };
 
-void plain_fresh(struct plain_picture *p);
+uint32_t plain_fresh(struct plain_picture *p, uint32_t depth);
 uint32_t plain_hear(struct plain_picture *p, uint32_t identifier, uint32_t remote, const uint8_t *restrict data,
                     size_t count);
 uint32_t plain_step_back(struct plain_picture *p);

@@ -6,6 +6,7 @@
 #include <unistd.h>
 
 enum { CUT_OFF = 15, BAD_NUMBER = 16 };
+enum { DEPTH = 16 }; /* of the way back, which the classroom program names */
 enum { WINDOW = 1 << 16, LONGEST_RECORD = 5 + 2 + 1 + 8 };
 
 struct tally {
@@ -122,7 +123,7 @@ static void print_listing(const struct tally *t)
 int main(void)
 {
     struct tally t = {0};
-    plain_fresh(&picture);
+    plain_fresh(&picture, DEPTH);
     if (!hear_input(&t)) {
         fputs("listing: the recording could not be read to its end\n", stderr);
         return 0;

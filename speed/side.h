@@ -8,7 +8,7 @@
 
 static struct plain_picture picture;
 
-#define FRESH() plain_fresh(&picture)
+#define FRESH() plain_fresh(&picture, PLAIN_DEPTH)
 #define HEAR(identifier, remote, data, count) plain_hear(&picture, identifier, remote, data, count)
 #define STEP_BACK() plain_step_back(&picture)
 #define CELL(address, location) plain_cell(&picture, address, location)

@@ -4,6 +4,8 @@
 #include <stdio.h>
 #include <stdlib.h>
 
+enum { DEPTH = 16 }; /* of the way back, which the listing program names */
+
 static struct ref_picture picture;
 static uint8_t *input;
 static size_t length, at;
@@ -94,7 +96,7 @@ int main(void)
     }
     unsigned long long heard = 0, refused = 0;
     struct ref_frame f = {0};
-    ref_fresh(&picture);
+    ref_fresh(&picture, DEPTH);
     while (record(&f))
         if (ref_hear(&picture, &f))
             refused++;

@@ -94,13 +94,6 @@ void check_record(size_t length, size_t at, uint64_t gap, const struct ref_frame
 
 /* ---- events ---- */
 
-void check_fresh(void)
-{
-    set_length(&picture, VELBUS_PICTURE_SIZE);
-    ref_fresh(&reference);
-    same("fresh", velbus_fresh(picture.start, picture.length), 0);
-}
-
 static void hold_picture(void) { memcpy(held, picture.start, picture.length); }
 
 static void same_event(const char *what, uint32_t word, unsigned refusal)
@@ -109,6 +102,21 @@ static void same_event(const char *what, uint32_t word, unsigned refusal)
     if (refusal)
         same_bytes("picture after a refusal", picture.start, held, picture.length);
     same("marks before the picture", (unsigned)marks_stand(&picture), 1);
+}
+
+void check_fresh(void)
+{
+    set_length(&picture, VELBUS_PICTURE_SIZE);
+    same_event("fresh", velbus_fresh(picture.start, picture.length), ref_fresh(&reference, REF_DEPTH));
+}
+
+void check_fresh_depth(uint32_t depth)
+{
+    unsigned refusal = ref_fresh(&reference, depth);
+    if (!refusal)
+        set_length(&picture, VELBUS_PICTURE_SIZE);
+    hold_picture();
+    same_event("fresh with a depth", velbus_fresh_depth(picture.start, picture.length, depth), refusal);
 }
 
 void check_hear(const struct ref_frame *f)

@@ -23,7 +23,9 @@ void check_record(size_t length, size_t at, uint64_t gap, const struct ref_frame
 
 /* ---- events on both pictures ---- */
 
+/* naming no depth; and one, which may be refused and then changes nothing */
 void check_fresh(void);
+void check_fresh_depth(uint32_t depth);
 void check_hear(const struct ref_frame *f);
 void check_step_back(void);
 

@@ -35,7 +35,7 @@ static void lent(size_t n)
         check_write(VELBUS_NO_TYPE, message, n, VELBUS_FRAME_SIZE);
 }
 
-/* a picture of a length, its bytes all 0: an empty one where it is long enough */
+/* a picture of a length, its bytes all 0: an empty one of depth 0 where it is long enough */
 static void picture_of(size_t n)
 {
     static const uint8_t zeros[VELBUS_PICTURE_SIZE + 1];
@@ -44,7 +44,7 @@ static void picture_of(size_t n)
     set_bytes(&data_in, request.data, request.count);
     set_length(&out, 600);
     const uint8_t *p = picture.start;
-    uint32_t asked = word ? word : refused(VELBUS_TYPE_NOT_KNOWN);
+    uint32_t asked = word ? word : refused(VELBUS_TYPE_NOT_KNOWN), back = word ? word : refused(VELBUS_NOTHING_KEPT);
     same("kept by length", velbus_kept(p, n), word);
     same("listed by length", velbus_listed(p, n, out.start, out.length), word);
     same("type by length", velbus_type(p, n, ADDRESS), asked);
@@ -56,10 +56,12 @@ static void picture_of(size_t n)
     same("name by length", velbus_name(p, n, ADDRESS, 1, out.start, out.length), asked);
     same("heard characters by length", velbus_name_heard(p, n, ADDRESS, 1, out.start, out.length), asked);
     same("memory row by length", velbus_memory_row(p, n, ADDRESS, out.start, out.length), asked);
-    same("step back by length", velbus_step_back(picture.start, n), word ? word : refused(VELBUS_NOTHING_KEPT));
+    same("step back by length", velbus_step_back(picture.start, n), back);
+    same("fresh with too great a depth by length", velbus_fresh_depth(picture.start, n, REF_DEPTH + 1), word ? word : refused(VELBUS_NO_SUCH_PLACE));
     same_bytes("picture by length", picture.start, zeros, n);
     same("hear by length", velbus_hear(picture.start, n, request.identifier, 1, data_in.start, 0), word);
-    same("step back by length", velbus_step_back(picture.start, n), word);
+    same("step back by length", velbus_step_back(picture.start, n), back);
+    same("fresh with a depth by length", velbus_fresh_depth(picture.start, n, REF_DEPTH), word);
     same("fresh by length", velbus_fresh(picture.start, n), word);
     if (word)
         same_bytes("picture too short", picture.start, zeros, n);

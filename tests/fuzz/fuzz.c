@@ -1,5 +1,5 @@
 /* A libFuzzer target: the bytes of an input are calls, put to the library and to the second implementation; it stops at a difference.
- * The first byte says how many modules are entered. A call is a byte that says which, and then its numbers, high byte first; what has
+ * The first byte says how deep the way back is, the second how many modules are entered. A call is a byte that says which, and then its numbers, high byte first; what has
  * run out reads as 0. tests/fuzz/run builds and runs it. */
 #include "subjects.h"
 
@@ -178,6 +178,7 @@ int LLVMFuzzerTestOneInput(const uint8_t *data, size_t size)
     left = size;
     seed(size);
     check_fresh();
+    check_fresh_depth((uint32_t)number(1) % (REF_DEPTH + 4)); /* a depth that is refused leaves the picture that named none */
     enter_modules((unsigned)number(1) % (VELBUS_MODULES + 4));
     while (left) {
         unsigned which = (unsigned)number(1);

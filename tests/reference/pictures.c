@@ -116,12 +116,16 @@ static void settle_oldest(struct ref_picture *p)
     memmove(&p->standing[0], &p->standing[1], --p->frames * sizeof p->standing[0]);
 }
 
-void ref_fresh(struct ref_picture *p)
+unsigned ref_fresh(struct ref_picture *p, uint32_t depth)
 {
+    if (depth > REF_DEPTH)
+        return 12;
     p->settled.count = 0;
     p->frames = 0;
+    p->depth = depth;
     p->kept = 0;
     work_out(p);
+    return 0;
 }
 
 /* only FF is accepted at an address that is not listed, so that apply finds its module */
@@ -143,7 +147,7 @@ unsigned ref_hear(struct ref_picture *p, const struct ref_frame *f)
     const struct ref_module *m = ref_module_at(p, address_of(f));
     if (is_entry(f) && m && m->type != f->data[1])
         p->kept = 0;
-    else if (p->kept < REF_STEPS)
+    else if (p->kept < p->depth)
         p->kept++;
     if (p->frames == REF_STANDING)
         settle_oldest(p);

@@ -31,8 +31,8 @@ enum { REF_VMB1BL = 0x03, REF_VMB8IR = 0x0A, REF_UNKNOWN = 256 };
 
 enum {
     REF_MODULES = 16,
-    REF_STEPS = 16,
-    REF_STANDING = 64 /* frames that are kept: more than can be struck off */
+    REF_DEPTH = 64,   /* the greatest depth of the way back, and the one that naming none gives */
+    REF_STANDING = 96 /* frames that are kept: more than can be struck off */
 };
 
 struct ref_module {
@@ -53,11 +53,12 @@ struct ref_picture {
     struct ref_modules settled; /* by the frames before the standing ones: none of them can be struck off any more */
     size_t frames;
     struct ref_frame standing[REF_STANDING];
-    unsigned kept;
+    unsigned depth, kept;
     struct ref_modules now; /* worked out anew from both at every change */
 };
 
-void ref_fresh(struct ref_picture *p);
+/* the refusal number; a picture that is refused the depth stays as it was */
+unsigned ref_fresh(struct ref_picture *p, uint32_t depth);
 unsigned ref_hear(struct ref_picture *p, const struct ref_frame *frame);
 unsigned ref_step_back(struct ref_picture *p);
 

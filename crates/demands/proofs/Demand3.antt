@@ -8,9 +8,10 @@ use Rattle.places.specs.declared.answers.Outcome.{Outcome}
 use Rattle.places.specs.declared.answers.Outcome.the-variants.{Done, Refused}
 use Rattle.places.specs.Layout.{size}
 use Rattle.picture.specs.Hearing.{hearing}
-use Rattle.history.specs.Standing.{Frame, Event, hear, back, kept, outcomeOf, granted, answered}
+use Rattle.history.specs.Standing.{Frame, Event, hear, back, deepest, kept, outcomeOf, granted, answered}
 use Rattle.history.specs.Demand3.{doing, runsBytes}
 use Rattle.history.proofs.Demand3.{demand-3 as shows-standing}
+use Rattle.history.proofs.Depth.{depths-named, kept-to-depth, none-at-zero}
 use Rattle.history.proofs.Sentence.{sentence, sentence-decides}
 use Rattle.history.proofs.ModulesListed.{in-order, listed-is}
 use Rattle.history.proofs.Effects.{back-over, room-used-again}
@@ -25,9 +26,9 @@ use Rattle.replay.proofs.Rooms.{all-is-replay, call-is-turn}
 use Rattle.demands.specs.Demand3.{backAfter, Granted, NotGranted, framesBy, framesFrom, stopBy, stopFrom, faultOf, offsetOf, accepting, refusing, counting, RecordingsHeard, Demand3}
 
 -- ---- a step back
-back-answer : (b : List ℕ) → size ≤ length b → (h : List Event) → backAfter b h ≡ outcomeOf (granted (kept h))
+back-answer : (b : List ℕ) → size ≤ length b → (d : ℕ) → d ≤ deepest → (h : List Event) → backAfter b d h ≡ outcomeOf (granted (kept d h))
 unfolding answered
-back-answer b whole h = shows-standing b whole h .next back
+back-answer b whole d allowed h = shows-standing b whole d allowed h .next back
 
 granted-above : (k : ℕ) → 0 < k → outcomeOf (granted k) ≡ Done
 unfolding outcomeOf granted
@@ -35,11 +36,11 @@ granted-above zero h = absurd (omega arith)
 granted-above (suc k) h = refl
 
 is-granted : Granted
-is-granted b whole h e = back-answer b whole h ∙ granted-above (kept h) e
+is-granted b whole d allowed h e = back-answer b whole d allowed h ∙ granted-above (kept d h) e
 
 is-not-granted : NotGranted
 unfolding outcomeOf granted
-is-not-granted b whole h e = back-answer b whole h ∙ ap (λ (k : ℕ). outcomeOf (granted k)) e
+is-not-granted b whole d allowed h e = back-answer b whole d allowed h ∙ ap (λ (k : ℕ). outcomeOf (granted k)) e
 
 -- ---- recordings
 accepted-one : (o : Outcome) → one (isDone o) ≡ accepting o
@@ -112,6 +113,9 @@ demand-3 =
       in-order = in-order;
       granted = is-granted;
       not-granted = is-not-granted;
+      depths-named = depths-named;
+      kept-to-depth = kept-to-depth;
+      none-at-zero = none-at-zero;
       back-over = back-over;
       room-used-again = room-used-again;
       listed-is = listed-is;

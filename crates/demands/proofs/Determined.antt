@@ -10,6 +10,7 @@ determined =
       put-at = λ s i v. of-answer _;
       put-number = λ out at v. of-lent _ _;
       fresh = λ b. (of-lent _ _, of-lent _ _);
+      fresh-with = λ b depth. (of-lent _ _, of-lent _ _);
       hear = λ b identifier remote s. (of-lent _ _, of-lent _ _);
       step-back = λ b. (of-lent _ _, of-lent _ _);
       listed = λ b out. (of-lent _ _, of-lent _ _);

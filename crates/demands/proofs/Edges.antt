@@ -7,7 +7,7 @@ use Rattle.frame.specs.Fields.{askedAllowed}
 use Rattle.frame.specs.Reading.{reading, commandRead, requestRead}
 use Rattle.places.specs.Places.{cellAsked, ledAsked, hasName}
 use Rattle.places.specs.Runs.{saidFrom, glowBy, meaningOf, meant, readAs}
-use Rattle.history.specs.Standing.{sense, meaning, typed, typeOf, after, gave, latest, more, listed, judged, judgement, stands, standing}
+use Rattle.history.specs.Standing.{sense, meaning, typed, typeOf, after, gave, latest, more, listed, judged, judgement, outcomeOf, stands, butLatest, struck, counted, standing, kept, granted, answered}
 use Rattle.history.specs.Asked.{allHeard, toldName, toldAs, toldReply}
 use Rattle.history.specs.Cases.{example}
 use Rattle.history.proofs.Demand3.{demand-3}
@@ -16,8 +16,8 @@ use Rattle.recording.specs.Record.{readWithin}
 use Rattle.demands.specs.Edges.{EdgesHold, EdgesOnBytes}
 
 pub edges-hold : EdgesHold
-unfolding tab lineOf rowsOf extentOf positionIn nameOf askedAllowed reading commandRead requestRead cellAsked ledAsked hasName saidFrom glowBy meaningOf meant readAs sense meaning typed typeOf after gave latest more listed judged judgement stands standing allHeard toldName toldAs toldReply numberBytes readNumber readWithin
+unfolding tab lineOf rowsOf extentOf positionIn nameOf askedAllowed reading commandRead requestRead cellAsked ledAsked hasName saidFrom glowBy meaningOf meant readAs sense meaning typed typeOf after gave latest more listed judged judgement outcomeOf stands butLatest struck counted standing kept granted answered allHeard toldName toldAs toldReply numberBytes readNumber readWithin
 edges-hold = refl
 
 pub edges-on-bytes : EdgesOnBytes
-edges-on-bytes b whole es = demand-3 b whole (reverse es) .each example
+edges-on-bytes b whole d allowed es = demand-3 b whole d allowed (reverse es) .each example

@@ -5,7 +5,7 @@ use mathlib.Core.List.{List, [], _∷_}
 use mathlib.Core.Bool.{Bool, true, false, _||_, cond}
 use lib.Dec.{eqb, ltb}
 use borrow.Author.Tests.{eqb-true, eqb-false}
-use Rattle.laws.specs.Refusals.{noRoom, nothingKept, tooShort}
+use Rattle.laws.specs.Refusals.{noRoom, nothingKept, noSuchPlace, tooShort}
 use Rattle.frame.specs.Types.{longType, rowFor}
 use Rattle.frame.specs.Bytes.{byte}
 use Rattle.frame.specs.Messages.{typeCommand}
@@ -14,20 +14,18 @@ use Rattle.frame.specs.declared.messages.Command.the-variants.{TypeLong, TypeSh
 use Rattle.frame.specs.declared.messages.Reading.{Reading}
 use Rattle.places.specs.declared.answers.Outcome.{Outcome}
 use Rattle.places.specs.declared.answers.Outcome.the-variants as outcome
-use Rattle.places.specs.Limits.{room, busAddress}
+use Rattle.places.specs.Limits.{room, mostDepth, busAddress}
 use Rattle.places.specs.Runs.{Run, meaningOf, meant, readAs, commandOf}
 use Rattle.places.specs.Result.{Result, refusing, done}
-use Rattle.places.specs.Layout.{headSize}
 use Rattle.places.specs.Head.{short, modulesOf, keptOf, kindIn}
-use Rattle.picture.specs.Stores.{zeroed}
 use Rattle.picture.specs.Hearing.{naming, exchangedBytes, enteredBytes, entering, hearingAs, hearingAt, hearing}
 use Rattle.picture.specs.Stepping.{steppingBack}
-use Rattle.picture.specs.Fresh.{freshening}
+use Rattle.picture.specs.Fresh.{freshBytes, fresheningWith, freshening}
 use Rattle.picture.proofs.Meant.{not-type, names-run, type-by}
 use Rattle.history.specs.Standing.{Event, hear}
 use Rattle.history.specs.Demand3.{doing}
 use Rattle.history.proofs.Refused.{refused-keeps}
-use Rattle.demands.specs.Order.{Test, _or_, Verdict, answers, refuses, verdict, frameOrder, pictureTest, slotHeard, roomTest, hearingOrder, backOrder}
+use Rattle.demands.specs.Order.{Test, _or_, Verdict, answers, refuses, verdict, frameOrder, pictureTest, freshOrder, slotHeard, roomTest, hearingOrder, backOrder}
 use Rattle.demands.specs.Demand1.{ofOutcome, Call, Pictures}
 use Rattle.demands.proofs.Orders.{answers-refuses, call-fault, call-done, answer-fault}
 use Rattle.demands.proofs.FrameOrders.{reader-order}
@@ -95,9 +93,14 @@ backs : (b : List ℕ) → Call (backOrder b) b (steppingBack b)
 unfolding steppingBack
 backs b = call-fault b tooShort _ _ (short b) (call-fault b nothingKept [] _ (eqb (keptOf b) 0) (call-done b _))
 
+-- no test of the depth is left where none is named
 freshens : (b : List ℕ) → Call (pictureTest b ∷ []) b (freshening b)
-unfolding freshening
-freshens b = call-fault b tooShort [] _ (short b) (call-done b (zeroed b headSize))
+unfolding freshening fresheningWith
+freshens b = call-fault b tooShort [] _ (short b) (call-done b (freshBytes b mostDepth))
+
+freshens-with : (b : List ℕ) (depth : ℕ) → Call (freshOrder b depth) b (fresheningWith b depth)
+unfolding fresheningWith
+freshens-with b depth = call-fault b tooShort _ _ (short b) (call-fault b noSuchPlace [] _ (ltb mostDepth depth) (call-done b (freshBytes b depth)))
 
 pub pictures : Pictures
-pictures = record { fresh = freshens; hear = hears; step-back = backs }
+pictures = record { fresh = freshens; fresh-with = freshens-with; hear = hears; step-back = backs }

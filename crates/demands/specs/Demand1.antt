@@ -20,7 +20,7 @@ use Rattle.places.specs.Answers.{outcomeNumbers, answerNumbers}
 use Rattle.places.specs.Result.{Result}
 use Rattle.picture.specs.Hearing.{hearing}
 use Rattle.picture.specs.Stepping.{steppingBack}
-use Rattle.picture.specs.Fresh.{freshening}
+use Rattle.picture.specs.Fresh.{fresheningWith, freshening}
 use Rattle.questions.specs.Question.{Question, Reply}
 use Rattle.questions.specs.Replies.{keptAnswer, listing, reply}
 use Rattle.recording.specs.declared.writes.Put.{Put}
@@ -36,7 +36,7 @@ use Rattle.velbus.specs.Words.{values, refusedWord, outcomeWord, answerWord}
 use Rattle.velbus.specs.Recordings.{putWord}
 use Rattle.velbus.specs.Layout.{messageSize}
 use Rattle.velbus.specs.Frames.{frameSize, readWord, readInto, writeWord, writeInto}
-use Rattle.demands.specs.Order.{Test, Verdict, answers, refuses, verdict, readerOrder, writerOrder, pictureTest, hearingOrder, backOrder, listedOrder, questionOrder, putOrder, replayOrder, partOrder, listingOrder, readOrder, writeOrder}
+use Rattle.demands.specs.Order.{Test, Verdict, answers, refuses, verdict, readerOrder, writerOrder, pictureTest, freshOrder, hearingOrder, backOrder, listedOrder, questionOrder, putOrder, replayOrder, partOrder, listingOrder, readOrder, writeOrder}
 
 -- ---- what each kind of answer comes to, by its numbers
 abbrev pub verdictOf : numbers.Numbers → Verdict
@@ -103,6 +103,7 @@ pub record Frames : Type 0 where
 -- the picture, of any bytes
 pub record Pictures : Type 0 where
   pub fresh : (b : List ℕ) → Call (pictureTest b ∷ []) b (freshening b)
+  pub fresh-with : (b : List ℕ) (depth : ℕ) → Call (freshOrder b depth) b (fresheningWith b depth)
   pub hear : (b : List ℕ) (identifier remote : ℕ) (s : List ℕ) → Call (hearingOrder b identifier remote s) b (hearing b identifier remote s)
   pub step-back : (b : List ℕ) → Call (backOrder b) b (steppingBack b)
 
@@ -137,7 +138,7 @@ pub record Replaying : Type 0 where
 pub record Words : Type 0 where
   -- no value is a refusal
   pub apart : (value n : ℕ) → value < values → 0 < n → value ≢ refusedWord n
-  -- velbus_fresh, hear, step_back
+  -- velbus_fresh, fresh_depth, hear, step_back
   pub of-outcome : (o : Outcome) → outcomeWord o ≡ wordOf (ofOutcome o) 0
   -- velbus_kept, listed and every question on an address
   pub of-answer : (a : Answer) → answerWord a ≡ wordOf (ofAnswer a) (valueOf a % values)

@@ -1,5 +1,5 @@
 -- Demand 3: after any run of frames and steps back, the picture shows exactly what the standing frames tell, place by place, unknown where none does; a
--- step back is granted exactly while the kept count is above zero. The proof is proofs/Demand3.antt.
+-- step back is granted exactly while the kept count is above zero, which is capped by the depth that the fresh picture named. The proof is proofs/Demand3.antt.
 use Prim.Native.Nat.{ℕ, zero, suc, _+_, _<_, _≤_}
 use mathlib.Core.Path.{_≡_}
 use mathlib.Core.List.{List, [], _∷_, map}
@@ -8,8 +8,9 @@ use Rattle.laws.specs.Refusals.{nothingKept}
 use Rattle.places.specs.declared.answers.Outcome.{Outcome}
 use Rattle.places.specs.declared.answers.Outcome.the-variants.{Done, Refused}
 use Rattle.places.specs.Layout.{size}
-use Rattle.history.specs.Standing.{Frame, Event, hear, back, kept}
+use Rattle.history.specs.Standing.{Frame, Event, hear, back, deepest, kept}
 use Rattle.history.specs.Demand3.{Demand3 as ShowsStanding, doing, runBytes, runsBytes, InOrder, ListedIs}
+use Rattle.history.specs.Depth.{DepthsNamed, KeptToDepth, NoneAtZero}
 use Rattle.history.specs.Sentence.{Sentence, SentenceDecides}
 use Rattle.history.specs.Effects.{BackOver, RoomUsedAgain}
 use Rattle.questions.specs.Statements.{RowIsBytes}
@@ -19,15 +20,15 @@ use Rattle.recording.specs.Record.{readRecord}
 use Rattle.replay.specs.Replay.{heardBy, replayed}
 use Rattle.replay.specs.Statements.{TurnsAreReplay, AllIsReplay, CallIsTurn}
 
--- a step back after the events h
-abbrev pub backAfter : List ℕ → List Event → Outcome
-backAfter b h = doing back (runBytes b h) .outcome
+-- a step back after the events h, from a fresh picture of the depth d
+abbrev pub backAfter : List ℕ → ℕ → List Event → Outcome
+backAfter b d h = doing back (runBytes b d h) .outcome
 
 abbrev pub Granted : Type 0
-Granted = (b : List ℕ) → size ≤ length b → (h : List Event) → 0 < kept h → backAfter b h ≡ Done
+Granted = (b : List ℕ) → size ≤ length b → (d : ℕ) → d ≤ deepest → (h : List Event) → 0 < kept d h → backAfter b d h ≡ Done
 
 abbrev pub NotGranted : Type 0
-NotGranted = (b : List ℕ) → size ≤ length b → (h : List Event) → kept h ≡ 0 → backAfter b h ≡ Refused nothingKept
+NotGranted = (b : List ℕ) → size ≤ length b → (d : ℕ) → d ≤ deepest → (h : List Event) → kept d h ≡ 0 → backAfter b d h ≡ Refused nothingKept
 
 -- ---- recordings
 -- the frames of a recording's unbroken records, from the offset `at` on, at most so many
@@ -105,6 +106,10 @@ pub record Demand3 : Type 0 where
   -- a step back is granted exactly while the kept count is above zero
   pub granted : Granted
   pub not-granted : NotGranted
+  -- which depths a fresh picture may name, and what naming none gives; the cap on the kept count is the depth; depth 0 grants no step at all
+  pub depths-named : DepthsNamed
+  pub kept-to-depth : KeptToDepth
+  pub none-at-zero : NoneAtZero
   -- and brings back every answer; a module entered and stepped back over is gone, and its room is used again
   pub back-over : BackOver
   pub room-used-again : RoomUsedAgain

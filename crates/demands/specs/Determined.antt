@@ -9,7 +9,7 @@ use Rattle.frame.specs.Reading.{reading}
 use Rattle.places.specs.Result.{Result}
 use Rattle.picture.specs.Hearing.{hearing}
 use Rattle.picture.specs.Stepping.{steppingBack}
-use Rattle.picture.specs.Fresh.{freshening}
+use Rattle.picture.specs.Fresh.{fresheningWith, freshening}
 use Rattle.questions.specs.Question.{Question, Reply}
 use Rattle.questions.specs.Replies.{listing, reply}
 use Rattle.numbers.specs.Write.{putGroups, putInto}
@@ -36,8 +36,9 @@ pub record Determined : Type 1 where
   pub copy-in : (out : List ℕ) (at : ℕ) (bytes : List ℕ) → OneAnswer (copiedIn out at bytes)
   pub put-at : (s : List ℕ) (i v : ℕ) → OneAnswer (set s i v)
   pub put-number : (out : List ℕ) (at v : ℕ) → OneResult (putGroups out at v) (putInto out at v)
-  -- fresh, hear, step_back
+  -- fresh, fresh_with, hear, step_back
   pub fresh : (b : List ℕ) → OneCall (freshening b)
+  pub fresh-with : (b : List ℕ) (depth : ℕ) → OneCall (fresheningWith b depth)
   pub hear : (b : List ℕ) (identifier remote : ℕ) (s : List ℕ) → OneCall (hearing b identifier remote s)
   pub step-back : (b : List ℕ) → OneCall (steppingBack b)
   -- listed, and every question on an address: name_heard, name, memory_row, memory_bytes

@@ -1,9 +1,10 @@
--- The starred edges of document 01, "Both sides of each edge": what the definitions give, and what is right. The proof is proofs/Edges.antt.
+-- The starred edges of document 01, "Both sides of each edge", and those of later requests: what the definitions give, and what is right. The proof is
+-- proofs/Edges.antt.
 use Prim.Native.Nat.{ℕ, _≤_}
 use mathlib.Core.Path.{_≡_}
 use mathlib.Core.List.{List, [], _∷_, map, reverse}
 use lib.ListN.{length, replicate}
-use Rattle.laws.specs.Refusals.{badIdentifier, badForm, badPriority, wrongPriority, badField, notWhole, badNumber}
+use Rattle.laws.specs.Refusals.{badIdentifier, badForm, badPriority, wrongPriority, badField, nothingKept, notWhole, badNumber}
 use Rattle.frame.specs.Identifiers.{priorityOf, addressOf}
 use Rattle.frame.specs.Reading.{reading}
 use Rattle.frame.specs.declared.identifiers.Address.{Address}
@@ -15,10 +16,12 @@ use Rattle.frame.specs.declared.messages.Reading.{Reading}
 use Rattle.frame.specs.declared.messages.Reading.the-variants.{Read, Refused}
 use Rattle.places.specs.declared.answers.Answer.{Answer}
 use Rattle.places.specs.declared.answers.Answer.the-variants.{Value, NotHeard}
+use Rattle.places.specs.declared.answers.Outcome.{Outcome}
+use Rattle.places.specs.declared.answers.Outcome.the-variants as outcome
 use Rattle.places.specs.Layout.{size}
 use Rattle.questions.specs.Question.{Question, cell, led, whole-name, Reply, value, refusing}
 use Rattle.questions.specs.Replies.{reply}
-use Rattle.history.specs.Standing.{Event}
+use Rattle.history.specs.Standing.{Event, back, deepest, outcomeOf, answered}
 use Rattle.history.specs.Demand3.{runBytes}
 use Rattle.history.specs.Cases.{example, ir, toldTo}
 use Rattle.history.specs.Cases.{low as heard}
@@ -30,12 +33,13 @@ use Rattle.recording.specs.declared.records.Entry.the-variants.{Broken}
 use Rattle.recording.specs.Limits.{mostGap}
 use Rattle.recording.specs.Record.{readRecord}
 
--- what an edge shows: the priority and the address of an identifier; a frame as it is read; answers; a name; a number's bytes; a number that was
--- read; what stands at a recording's start
+-- what an edge shows: the priority and the address of an identifier; a frame as it is read; answers; what a step back comes to; a name; a number's
+-- bytes; a number that was read; what stands at a recording's start
 pub data Shown : Type 0 where
   parts : ℕ → Address → Shown
   frame : Reading → Shown
   answers : List Answer → Shown
+  step : Outcome → Shown
   name : Reply → Shown
   bytes : List ℕ → Shown
   number : Found → Shown
@@ -68,9 +72,16 @@ reads kind i remote s r = record { given = frame (reading kind i remote s); righ
 abbrev pub accepts : ℕ → ℕ → List ℕ → Command → Row
 accepts kind i s m = reads kind i 0 s (Read at (Tells m))
 
+-- after these events, from a fresh picture of that depth, the questions are answered so, and a step back comes to that
+abbrev pub askedAt : ℕ → List Event → List Question → List Answer → Row
+askedAt d es qs xs = record { given = answers (map (λ (q : Question). toldTo d es q [] .answer) qs); right = answers xs }
+
+abbrev pub backAt : ℕ → List Event → Outcome → Row
+backAt d es o = record { given = step (outcomeOf (answered d (reverse es) back)); right = step o }
+
 -- after these frames the questions are answered so
 abbrev pub asked : List Event → List Question → List Answer → Row
-asked es qs xs = record { given = answers (map (λ (q : Question). toldTo es q [] .answer) qs); right = answers xs }
+asked = askedAt deepest
 
 -- after these frames the name of a channel is asked for, into sixteen zeros
 abbrev pub channel : ℕ
@@ -80,7 +91,7 @@ abbrev pub zeros : List ℕ
 zeros = replicate 16 0
 
 abbrev pub named : List Event → Reply → Row
-named es r = record { given = name (toldTo es (whole-name channel) zeros); right = name r }
+named es r = record { given = name (toldTo deepest es (whole-name channel) zeros); right = name r }
 
 -- a number's bytes, and the same bytes read
 abbrev pub written : ℕ → List ℕ → Row
@@ -183,6 +194,12 @@ edges =
     -- FE, then FC on one cell: unknown
     ∷ asked (ir ∷ told ∷ []) (cell 5 ∷ []) (Value 0x2A ∷ [])
     ∷ asked (ir ∷ told ∷ change ∷ []) (cell 5 ∷ []) (NotHeard ∷ [])
+    -- depth 0: the frame stands, and no step is granted (11); depth 1: one is granted, and no second
+    ∷ backAt 0 (ir ∷ told ∷ []) (outcome.Refused nothingKept)
+    ∷ askedAt 0 (ir ∷ told ∷ back ∷ []) (cell 5 ∷ []) (Value 0x2A ∷ [])
+    ∷ backAt 1 (ir ∷ told ∷ []) outcome.Done
+    ∷ askedAt 1 (ir ∷ told ∷ back ∷ []) (cell 5 ∷ []) (NotHeard ∷ [])
+    ∷ backAt 1 (ir ∷ told ∷ back ∷ []) (outcome.Refused nothingKept)
     -- 3240 is A8 19; 127 is 7F; 128 is 80 01; 80 00: 16
     ∷ written 3240 (0xA8 ∷ 0x19 ∷ [])
     ∷ readAs (0xA8 ∷ 0x19 ∷ []) 3240
@@ -203,7 +220,8 @@ edges =
 abbrev pub EdgesHold : Type 0
 EdgesHold = map (λ (r : Row). r .given) edges ≡ map (λ (r : Row). r .right) edges
 
--- and what the frames tell there is what the picture's bytes answer, from any fresh picture
+-- and what the frames tell there is what the picture's bytes answer, from any fresh picture of any depth
 abbrev pub EdgesOnBytes : Type 0
 EdgesOnBytes =
-    (b : List ℕ) → size ≤ length b → (es : List Event) (q : Question) (out : List ℕ) → reply (runBytes b (reverse es)) example q out ≡ toldTo es q out
+    (b : List ℕ) → size ≤ length b → (d : ℕ) → d ≤ deepest → (es : List Event) (q : Question) (out : List ℕ)
+    → reply (runBytes b d (reverse es)) example q out ≡ toldTo d es q out

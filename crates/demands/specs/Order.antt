@@ -21,6 +21,7 @@ use Rattle.places.specs.Runs.{commandOf}
 use Rattle.places.specs.Head.{short, modulesOf, keptOf, slotOf, kindIn}
 use Rattle.questions.specs.Question.{Question, type-of, build-year, build-week, cell, led, blind, name-heard, whole-name, memory-row, memory-bytes}
 use Rattle.questions.specs.Replies.{slotAsked, characterHeard, sumTo}
+use Rattle.history.specs.Standing.{deepest}
 use Rattle.recording.specs.Write.{inRange, recordBytes}
 use Rattle.velbus.specs.declared.parts.Held.{Held}
 use Rattle.velbus.specs.declared.parts.Held.the-variants.{Holds, Nothing}
@@ -113,6 +114,10 @@ writerOrder kind m = among kind handedTypes or badType ∷ messageTests kind m
 -- a picture too short is 13, before anything else
 abbrev pub pictureTest : List ℕ → Test
 pictureTest b = not (short b) or tooShort
+
+-- a fresh picture that names its depth: none is above 64
+abbrev pub freshOrder : List ℕ → ℕ → List Test
+freshOrder b depth = pictureTest b ∷ not (ltb deepest depth) or noSuchPlace ∷ []
 
 -- the slot and the type that the picture has for the address of a frame
 abbrev pub slotHeard : List ℕ → ℕ → ℕ

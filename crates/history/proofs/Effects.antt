@@ -1,5 +1,5 @@
 -- The statements of specs/Effects.antt. Assumes nothing.
-use Prim.Native.Nat.{ℕ, suc, pred, min, _≤_}
+use Prim.Native.Nat.{ℕ, suc, pred, min, _<_, _≤_}
 use native.Mathlib.Omega.{arith}
 use mathlib.Core.Path.{_≡_, refl, sym, ap, _∙_, subst}
 use mathlib.Core.Bool.{false, cond}
@@ -14,8 +14,8 @@ use Rattle.frame.specs.declared.messages.Command.{Command}
 use Rattle.places.specs.declared.answers.Outcome.the-variants.{Done}
 use Rattle.places.specs.Layout.{size}
 use Rattle.places.specs.Runs.{Run, Meaning, refuses, names, enters, meaningOf, meant, readAs}
-use Rattle.places.specs.Limits.{room, depth}
-use Rattle.history.specs.Standing.{handed, sense, Frame, address, meaning, Known, typed, typeOf, gave, latest, more, listed, Judgement, refused, accepted, exchanged, judged, judgement, outcomeOf, Event, hear, back, stands, butLatest, struck, counted, standing, kept, answered}
+use Rattle.places.specs.Limits.{room}
+use Rattle.history.specs.Standing.{handed, sense, Frame, address, meaning, Known, typed, typeOf, gave, latest, more, listed, Judgement, refused, accepted, exchanged, judged, judgement, outcomeOf, Event, hear, back, deepest, stands, butLatest, struck, counted, standing, kept, answered}
 use Rattle.history.specs.Demand3.{doing, runBytes, Tells, Answers}
 use Rattle.history.specs.Effects.{Reads, HearsCommand, HearsEntry, HearsExchange, Alike, Own, Effect, Effects, SameAnswers, BackOver, Sixteenth, RoomAgain, RoomUsedAgain}
 use Rattle.history.proofs.Shows.{other-type, other-latest, here-type, here-latest}
@@ -36,76 +36,76 @@ done-stands (refused n) f S e = absurd (let z : _≡_ {A = ℕ} 0 1 = cc in omeg
 done-stands accepted f S e = refl
 done-stands exchanged f S e = refl
 
-module _ (b : List ℕ) (whole : size ≤ length b) (h : List Event) (f : Frame) where
+module _ (b : List ℕ) (whole : size ≤ length b) (d : ℕ) (allowed : d ≤ deepest) (h : List Event) (f : Frame) where
   abbrev S : List Frame
-  S = standing h
+  S = standing d h
 
-  before-it : Answers (runBytes b h) h
-  before-it = demand-3 b whole h
+  before-it : Answers (runBytes b d h) d h
+  before-it = demand-3 b whole d allowed h
 
-  after-it : Answers (runBytes b (hear f ∷ h)) (hear f ∷ h)
-  after-it = demand-3 b whole (hear f ∷ h)
+  after-it : Answers (runBytes b d (hear f ∷ h)) d (hear f ∷ h)
+  after-it = demand-3 b whole d allowed (hear f ∷ h)
 
-  bytes-after : runBytes b (hear f ∷ h) ≡ doing (hear f) (runBytes b h) .buffer
+  bytes-after : runBytes b d (hear f ∷ h) ≡ doing (hear f) (runBytes b d h) .buffer
   unfolding runBytes
   bytes-after = refl
 
-  it-stands : outcomeOf (judgement S f) ≡ Done → standing (hear f ∷ h) ≡ f ∷ S
+  pub it-stands : outcomeOf (judgement S f) ≡ Done → standing d (hear f ∷ h) ≡ f ∷ S
   unfolding standing
   it-stands e = done-stands (judgement S f) f S e
 
-  answer-is : doing (hear f) (runBytes b h) .outcome ≡ outcomeOf (judgement S f)
+  pub answer-is : doing (hear f) (runBytes b d h) .outcome ≡ outcomeOf (judgement S f)
   unfolding answered
   answer-is = before-it .next (hear f)
 
-  told-after : outcomeOf (judgement S f) ≡ Done → (a : ℕ) → Tells (doing (hear f) (runBytes b h) .buffer) a (typeOf (f ∷ S) a) (latest (f ∷ S) a)
+  told-after : outcomeOf (judgement S f) ≡ Done → (a : ℕ) → Tells (doing (hear f) (runBytes b d h) .buffer) a (typeOf (f ∷ S) a) (latest (f ∷ S) a)
   told-after e a = rw (← (it-stands e), ← bytes-after) (after-it .each a)
 
   own-by : outcomeOf (judgement S f) ≡ Done → (m : Meaning) → meaning (typeOf S (address f)) f ≡ m
-      → Own (doing (hear f) (runBytes b h) .buffer) (address f) (typeOf S (address f)) (latest S (address f)) m
+      → Own (doing (hear f) (runBytes b d h) .buffer) (address f) (typeOf S (address f)) (latest S (address f)) m
   unfolding typed gave
   own-by e (refuses n) q = retold _ (address f) (here-type f S (refuses n) q) (λ p. here-latest f S (refuses n) p q) (told-after e (address f))
   own-by e (names r) q = retold _ (address f) (here-type f S (names r) q) (λ p. here-latest f S (names r) p q) (told-after e (address f))
   own-by e (enters k r) q = retold _ (address f) (here-type f S (enters k r) q) (λ p. here-latest f S (enters k r) p q) (told-after e (address f))
 
-  effect : outcomeOf (judgement S f) ≡ Done → Effect (runBytes b h) (doing (hear f) (runBytes b h) .buffer) S f
+  effect : outcomeOf (judgement S f) ≡ Done → Effect (runBytes b d h) (doing (hear f) (runBytes b d h) .buffer) S f
   effect e =
       record {
         elsewhere =
-            λ a d.
-            let n : eqb (address f) a ≡ false = ne-eqb (address f) a (λ q. d (sym q)) in
-            alike (runBytes b h) _ a (typeOf S a) (latest S a) (before-it .each a) (retold _ a (other-type f S a n) (λ p. other-latest f S a p n) (told-after e a));
+            λ a other.
+            let n : eqb (address f) a ≡ false = ne-eqb (address f) a (λ q. other (sym q)) in
+            alike (runBytes b d h) _ a (typeOf S a) (latest S a) (before-it .each a) (retold _ a (other-type f S a n) (λ p. other-latest f S a p n) (told-after e a));
         own = own-by e (meaning (typeOf S (address f)) f) refl;
       }
 
   -- ---- a step back over it
-  kept-some : judgement S f ≡ accepted → struck (kept (hear f ∷ h)) (f ∷ S) ≡ S
+  kept-some : 0 < d → judgement S f ≡ accepted → struck (kept d (hear f ∷ h)) (f ∷ S) ≡ S
   unfolding kept counted struck butLatest
-  kept-some e = rw e (go (kept h))
+  kept-some deep e = rw e (go (kept d h))
     where
-      go : (k : ℕ) → struck (min depth (suc k)) (f ∷ S) ≡ S
-      go k = let q : min depth (suc k) ≡ suc (min (pred depth) k) = omega arith in rw q
+      go : (k : ℕ) → struck (min d (suc k)) (f ∷ S) ≡ S
+      go k = let q : min d (suc k) ≡ suc (min (pred d) k) = omega arith in rw q
 
   done-it : judgement S f ≡ accepted → outcomeOf (judgement S f) ≡ Done
   unfolding outcomeOf
   done-it e = rw e
 
-  stands-again : judgement S f ≡ accepted → standing (back ∷ hear f ∷ h) ≡ S
+  stands-again : 0 < d → judgement S f ≡ accepted → standing d (back ∷ hear f ∷ h) ≡ S
   unfolding standing
-  stands-again e = rw (done-stands (judgement S f) f S (done-it e)) (kept-some e)
+  stands-again deep e = rw (done-stands (judgement S f) f S (done-it e)) (kept-some deep e)
 
-  back-answers : judgement S f ≡ accepted → SameAnswers (runBytes b h) (runBytes b (back ∷ hear f ∷ h))
+  back-answers : 0 < d → judgement S f ≡ accepted → SameAnswers (runBytes b d h) (runBytes b d (back ∷ hear f ∷ h))
   unfolding answered
-  back-answers e =
-      let c = demand-3 b whole (back ∷ hear f ∷ h) in
+  back-answers deep e =
+      let c = demand-3 b whole d allowed (back ∷ hear f ∷ h) in
       record {
-        addresses-listed = λ out. before-it .addresses-listed out ∙ sym (rw (stands-again e) at (c .addresses-listed out));
-        each = λ a. alike (runBytes b h) (runBytes b (back ∷ hear f ∷ h)) a (typeOf S a) (latest S a) (before-it .each a) (rw (stands-again e) at (c .each a));
-        next = λ g. before-it .next (hear g) ∙ sym (rw (stands-again e) at (c .next (hear g)));
+        addresses-listed = λ out. before-it .addresses-listed out ∙ sym (rw (stands-again deep e) at (c .addresses-listed out));
+        each = λ a. alike (runBytes b d h) (runBytes b d (back ∷ hear f ∷ h)) a (typeOf S a) (latest S a) (before-it .each a) (rw (stands-again deep e) at (c .each a));
+        next = λ g. before-it .next (hear g) ∙ sym (rw (stands-again deep e) at (c .next (hear g)));
       }
 
 pub effects : Effects
-effects b whole h f e = effect b whole h f (sym (answer-is b whole h f) ∙ e)
+effects b whole d allowed h f e = effect b whole d allowed h f (sym (answer-is b whole d allowed h f) ∙ e)
 
 pub back-over : BackOver
 back-over = back-answers
@@ -115,27 +115,27 @@ reads-means : (t : Option ℕ) (f : Frame) (m : Command) → Reads (handed t) f 
 unfolding meaning readAs meant
 reads-means t f m e = rw e
 
-module _ (b : List ℕ) (whole : size ≤ length b) (h : List Event) (f : Frame) (t : Option ℕ) (m : Meaning) (t-is : typeOf (standing h) (address f) ≡ t) (m-is : meaning t f ≡ m) where
-  judged-as : judgement (standing h) f ≡ judged t (listed (standing h)) m
+module _ (b : List ℕ) (whole : size ≤ length b) (d : ℕ) (allowed : d ≤ deepest) (h : List Event) (f : Frame) (t : Option ℕ) (m : Meaning) (t-is : typeOf (standing d h) (address f) ≡ t) (m-is : meaning t f ≡ m) where
+  judged-as : judgement (standing d h) f ≡ judged t (listed (standing d h)) m
   unfolding judgement
   judged-as = rw (t-is, m-is)
 
-  heard-own : outcomeOf (judged t (listed (standing h)) m) ≡ Done
-      → (doing (hear f) (runBytes b h) .outcome ≡ Done) × Own (doing (hear f) (runBytes b h) .buffer) (address f) t (latest (standing h) (address f)) m
+  heard-own : outcomeOf (judged t (listed (standing d h)) m) ≡ Done
+      → (doing (hear f) (runBytes b d h) .outcome ≡ Done) × Own (doing (hear f) (runBytes b d h) .buffer) (address f) t (latest (standing d h) (address f)) m
   heard-own e =
-      let d : outcomeOf (judgement (standing h) f) ≡ Done = ap outcomeOf judged-as ∙ e in
-      (answer-is b whole h f ∙ d, rw t-is at (own-by b whole h f d m (ap (λ (x : Option ℕ). meaning x f) t-is ∙ m-is)))
+      let done : outcomeOf (judgement (standing d h) f) ≡ Done = ap outcomeOf judged-as ∙ e in
+      (answer-is b whole d allowed h f ∙ done, rw t-is at (own-by b whole d allowed h f done m (ap (λ (x : Option ℕ). meaning x f) t-is ∙ m-is)))
 
 pub hears-command : HearsCommand
 unfolding judged outcomeOf
-hears-command b whole h f kind m r t e named =
-    let o = heard-own b whole h f (some kind) (names r) t (reads-means (some kind) f m e ∙ named) refl in
+hears-command b whole d allowed h f kind m r t e named =
+    let o = heard-own b whole d allowed h f (some kind) (names r) t (reads-means (some kind) f m e ∙ named) refl in
     record { answer = o .0; tells = o .1 }
 
 pub hears-entry : HearsEntry
 unfolding judged outcomeOf sense
-hears-entry b whole h f m k r t e enter free =
-    let o = heard-own b whole h f none (enters k r) t (reads-means none f m e ∙ ap (sense none) enter) (rw (lt-ltb (listed (standing h)) room free)) in
+hears-entry b whole d allowed h f m k r t e enter free =
+    let o = heard-own b whole d allowed h f none (enters k r) t (reads-means none f m e ∙ ap (sense none) enter) (rw (lt-ltb (listed (standing d h)) room free)) in
     record { answer = o .0; tells = o .1 }
 
 exchanges : (kind k : ℕ) (r : Run) → k ≢ kind → sense (some kind) (enters k r) ≡ enters k r
@@ -144,42 +144,42 @@ exchanges kind k r d = rw (ne-eqb kind k (λ q. d (sym q)))
 
 pub hears-exchange : HearsExchange
 unfolding judged outcomeOf kept counted
-hears-exchange b whole h f kind m k r t e enter other =
+hears-exchange b whole d allowed h f kind m k r t e enter other =
     let q = reads-means (some kind) f m e ∙ ap (sense (some kind)) enter ∙ exchanges kind k r other in
-    let o = heard-own b whole h f (some kind) (enters k r) t q refl in
-    (record { answer = o .0; tells = o .1 }, rw (judged-as b whole h f (some kind) (enters k r) t q))
+    let o = heard-own b whole d allowed h f (some kind) (enters k r) t q refl in
+    (record { answer = o .0; tells = o .1 }, rw (judged-as b whole d allowed h f (some kind) (enters k r) t q))
 
 -- ---- the sixteenth and the seventeenth module
-module _ (b : List ℕ) (whole : size ≤ length b) (h : List Event) (f g : Frame) (k l : ℕ) (r q : Run) (s : Sixteenth (standing h) f g k l r q) where
+module _ (b : List ℕ) (whole : size ≤ length b) (d : ℕ) (allowed : d ≤ deepest) (h : List Event) (f g : Frame) (k l : ℕ) (r q : Run) (deep : 0 < d) (s : Sixteenth (standing d h) f g k l r q) where
   judged-new : (T : List Frame) (x : Frame) (n : ℕ) (p : Run) → typeOf T (address x) ≡ none → meaning none x ≡ enters n p
       → judgement T x ≡ cond (ltb (listed T) room) accepted (refused noRoom)
   unfolding judgement judged
   judged-new T x n p e m = rw (e, m)
 
-  f-accepted : judgement (standing h) f ≡ accepted
-  f-accepted = judged-new (standing h) f k r (s .f-new) (s .f-enters) ∙ rw (lt-ltb (listed (standing h)) room (omega (arith, s .fifteen)))
+  f-accepted : judgement (standing d h) f ≡ accepted
+  f-accepted = judged-new (standing d h) f k r (s .f-new) (s .f-enters) ∙ rw (lt-ltb (listed (standing d h)) room (omega (arith, s .fifteen)))
 
-  g-first : judgement (standing h) g ≡ accepted
-  g-first = judged-new (standing h) g l q (s .g-new) (s .g-enters) ∙ rw (lt-ltb (listed (standing h)) room (omega (arith, s .fifteen)))
+  g-first : judgement (standing d h) g ≡ accepted
+  g-first = judged-new (standing d h) g l q (s .g-new) (s .g-enters) ∙ rw (lt-ltb (listed (standing d h)) room (omega (arith, s .fifteen)))
 
-  more-listed : listed (f ∷ standing h) ≡ room
+  more-listed : listed (f ∷ standing d h) ≡ room
   unfolding listed more
   more-listed = rw (s .f-new, s .f-enters) (s .fifteen)
 
-  g-refused : judgement (f ∷ standing h) g ≡ refused noRoom
+  g-refused : judgement (f ∷ standing d h) g ≡ refused noRoom
   g-refused =
-      judged-new (f ∷ standing h) g l q (other-type f (standing h) (address g) (ne-eqb (address f) (address g) (s .apart)) ∙ s .g-new) (s .g-enters)
-      ∙ rw (le-ltb (listed (f ∷ standing h)) room (omega (arith, more-listed)))
+      judged-new (f ∷ standing d h) g l q (other-type f (standing d h) (address g) (ne-eqb (address f) (address g) (s .apart)) ∙ s .g-new) (s .g-enters)
+      ∙ rw (le-ltb (listed (f ∷ standing d h)) room (omega (arith, more-listed)))
 
-  room-again : RoomAgain b h f g
+  room-again : RoomAgain b d h f g
   unfolding outcomeOf
   room-again =
-      let back-is = back-answers b whole h f f-accepted in
+      let back-is = back-answers b whole d allowed h f deep f-accepted in
       record {
-        entered = answer-is b whole h f ∙ ap outcomeOf f-accepted;
-        full = answer-is b whole (hear f ∷ h) g ∙ ap (λ (T : List Frame). outcomeOf (judgement T g)) (it-stands b whole h f (ap outcomeOf f-accepted)) ∙ ap outcomeOf g-refused;
+        entered = answer-is b whole d allowed h f ∙ ap outcomeOf f-accepted;
+        full = answer-is b whole d allowed (hear f ∷ h) g ∙ ap (λ (T : List Frame). outcomeOf (judgement T g)) (it-stands b whole d allowed h f (ap outcomeOf f-accepted)) ∙ ap outcomeOf g-refused;
         gone = back-is .each (address f);
-        again = sym (back-is .next g) ∙ answer-is b whole h g ∙ ap outcomeOf g-first;
+        again = sym (back-is .next g) ∙ answer-is b whole d allowed h g ∙ ap outcomeOf g-first;
       }
 
 pub room-used-again : RoomUsedAgain

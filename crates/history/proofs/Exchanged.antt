@@ -14,12 +14,12 @@ use Rattle.places.specs.Places.{places}
 use Rattle.places.specs.Runs.{Run}
 use Rattle.places.specs.Fitting.{endOf}
 use Rattle.places.specs.Layout.{keptAt, slotAt, recordSize, recordAt}
-use Rattle.places.specs.Head.{modulesOf, keptOf}
+use Rattle.places.specs.Head.{modulesOf, keptOf, depthOf}
 use Rattle.picture.specs.Hearing.{newRecord, exchangedBytes}
 use Rattle.history.specs.Machine.{new}
 use Rattle.history.specs.Refinement.{entries, stateOf, Good}
 use Rattle.history.proofs.Stores.{Within, within-set}
-use Rattle.history.proofs.Parts.{modules-few, modules-by, modules-still, record-changed, state-is, good-still, good-within}
+use Rattle.history.proofs.Parts.{modules-few, modules-by, depth-by, modules-still, record-changed, state-is, good-still, good-within}
 use Rattle.history.proofs.NewRecord.{within-new, new-module, new-address}
 
 module _ (b : List ℕ) (s a k : ℕ) (r : Run) (good : Good b) (fit : endOf r ≤ places) (there : s < modulesOf b) (own : getD b (recordAt s) 0 ≡ a) where
@@ -47,6 +47,10 @@ module _ (b : List ℕ) (s a k : ℕ) (r : Run) (good : Good b) (fit : endOf r �
   pub exchanged-good : Good (exchangedBytes b s a k r)
   unfolding exchangedBytes
   exchanged-good = good-within (within-set laid keptAt 0) (λ p q. omega arith) (λ x l p q. omega arith) (λ j l p q. omega arith) laid-good
+
+  pub exchanged-depth : depthOf (exchangedBytes b s a k r) ≡ depthOf b
+  unfolding exchangedBytes
+  exchanged-depth = depth-by (within-set laid keptAt 0) (λ p q. omega arith) ∙ depth-by lw (λ p q. omega arith)
 
   pub exchanged-state : stateOf (exchangedBytes b s a k r) ≡ record { modules = set (stateOf b .modules) s (new a k r); log = [] }
   unfolding exchangedBytes stateOf entries

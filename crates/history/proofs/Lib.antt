@@ -20,6 +20,7 @@ pub mod Asked
 pub mod Demand3
 pub mod Sentence
 pub mod Effects
+pub mod Depth
 pub mod Refused
 pub mod Speaks
 pub mod Worked

@@ -15,14 +15,14 @@ use Rattle.history.specs.Asked.{yesIf}
 use Rattle.history.specs.Demand3.{listedBelow, ListedIs, runBytes, runsBytes, InOrder}
 use Rattle.history.proofs.Shows.{other-type, here-type}
 
-runs-from : (b : List ℕ) (es h : List Event) → runsBytes (runBytes b h) es ≡ runBytes b (reverseAux es h)
+runs-from : (b : List ℕ) (d : ℕ) (es h : List Event) → runsBytes (runBytes b d h) es ≡ runBytes b d (reverseAux es h)
 unfolding runsBytes runBytes
-runs-from b [] h = refl
-runs-from b (e ∷ es) h = runs-from b es (e ∷ h)
+runs-from b d [] h = refl
+runs-from b d (e ∷ es) h = runs-from b d es (e ∷ h)
 
 pub in-order : InOrder
 unfolding runBytes
-in-order b es = runs-from b es []
+in-order b d es = runs-from b d es []
 
 none-below : (n : ℕ) → listedBelow n [] ≡ 0
 unfolding listedBelow typeOf

@@ -12,7 +12,7 @@ use Rattle.picture.specs.Stepping.{offsetOf}
 use Rattle.history.specs.Machine.{Undo, same, entered}
 use Rattle.history.specs.Refinement.{undoAt, stateOf, Good}
 use Rattle.history.proofs.Stores.{Within, within-wider, laid-within, laid-at, stored-lays}
-use Rattle.history.proofs.Parts.{undo-apart, next-small, good-within, modules-still, Does}
+use Rattle.history.proofs.Parts.{undo-apart, next-small, depth-by, good-within, modules-still, Does}
 
 -- a number is the sum of its four bytes
 summed : (n a b c d q r : ℕ) → n ≡ 256 * q + a → q ≡ 256 * r + b → r ≡ 256 * d + c → a + 256 * b + 65536 * c + 16777216 * d ≡ n
@@ -53,6 +53,7 @@ does-entry b c u good w h =
           record {
             kept-is = w .outside keptAt (λ p q. omega arith);
             next-is = w .outside nextAt (λ p q. omega arith);
+            depth-is = depth-by w (λ p q. omega arith);
             latest-is = h;
             others-are = λ e l d. undo-apart w e (λ o p q x y. omega arith);
           };

@@ -12,10 +12,10 @@ use lib.Seq.{getD-set-same, getD-set-other, set-getD}
 use borrow.Author.Tests.{ltb-true, ltb-false, le-ltb}
 use Rattle.laws.specs.Tab.{tab}
 use Rattle.laws.proofs.Tab.{tab-ext, tab-set, length-tab}
-use Rattle.places.specs.Limits.{room, ring, depth, addresses, mostPlaces}
+use Rattle.places.specs.Limits.{room, ring, addresses, mostPlaces}
 use Rattle.places.specs.Places.{places}
-use Rattle.places.specs.Layout.{countAt, keptAt, nextAt, slotAt, recordSize, recordAt, kindAt, placeAt, ringAt, entrySize, oldAt, offsetAt, size}
-use Rattle.places.specs.Head.{short, modulesOf, keptOf, nextOf, before, following}
+use Rattle.places.specs.Layout.{countAt, keptAt, nextAt, depthAt, slotAt, recordSize, recordAt, kindAt, placeAt, ringAt, entrySize, oldAt, offsetAt, size}
+use Rattle.places.specs.Head.{short, modulesOf, keptOf, nextOf, depthOf, before, following}
 use Rattle.picture.specs.Log.{oneMore, stepped}
 use Rattle.picture.specs.Stepping.{offsetOf}
 use Rattle.history.specs.Machine.{Cell, Module, nobody, Undo, same, State}
@@ -104,6 +104,10 @@ module _ {lo hi : ℕ} {b c : List ℕ} (w : Within lo hi b c) where
   unfolding modulesOf
   modules-by n = rw (w .outside countAt n)
 
+  pub depth-by : (lo ≤ depthAt → depthAt < hi → ⊥) → depthOf c ≡ depthOf b
+  unfolding depthOf
+  depth-by n = rw (w .outside depthAt n)
+
   -- no byte of the head but those of the log, no byte of the table, no module's address
   pub good-within : (lo ≤ countAt → countAt < hi → ⊥) → ((a : ℕ) → a < addresses → lo ≤ slotAt a → slotAt a < hi → ⊥)
       → ((s : ℕ) → s < room → lo ≤ recordAt s → recordAt s < hi → ⊥) → Good b → Good c
@@ -137,6 +141,9 @@ module _ (b : List ℕ) (k n : ℕ) (whole : size ≤ length b) where
   unfolding nextOf
   next-stored = rw (getD-set-same (set b keptAt k) nextAt n 0 (rw length-set (omega arith)))
 
+  pub steer-depth : depthOf (set (set b keptAt k) nextAt n) ≡ depthOf b
+  steer-depth = depth-by within-steer (λ p q. omega arith)
+
   pub steer-good : Good b → Good (set (set b keptAt k) nextAt n)
   steer-good = good-within within-steer (λ p q. omega arith) (λ a l p q. omega arith) (λ s l p q. omega arith)
 
@@ -149,28 +156,33 @@ module _ (b : List ℕ) (k n : ℕ) (whole : size ≤ length b) where
       (rw (kept-stored, next-stored, q, tab-ext ring (undoAt (set (set b keptAt k) nextAt n)) (undoAt b) (λ e l. undo-apart within-steer e (λ o p q x y. omega arith))))
 
 -- a step counted
-one-more : (b : List ℕ) → keptOf b ≤ depth → oneMore b ≡ set b keptAt (min depth (suc (keptOf b)))
+one-more : (b : List ℕ) → keptOf b ≤ depthOf b → oneMore b ≡ set b keptAt (min (depthOf b) (suc (keptOf b)))
 unfolding keptOf
-one-more b h = go (ltb (getD b keptAt 0) depth) refl
+one-more b h = go (ltb (getD b keptAt 0) (depthOf b)) refl
   where
-    go : (c : Bool) → ltb (getD b keptAt 0) depth ≡ c → cond c (set b keptAt (suc (getD b keptAt 0))) b ≡ set b keptAt (min depth (suc (getD b keptAt 0)))
-    go true e = let l = ltb-true (getD b keptAt 0) depth e in let q : min depth (suc (getD b keptAt 0)) ≡ suc (getD b keptAt 0) = omega arith in rw q
+    go : (c : Bool) → ltb (getD b keptAt 0) (depthOf b) ≡ c → cond c (set b keptAt (suc (getD b keptAt 0))) b ≡ set b keptAt (min (depthOf b) (suc (getD b keptAt 0)))
+    go true e =
+        let l = ltb-true (getD b keptAt 0) (depthOf b) e in let q : min (depthOf b) (suc (getD b keptAt 0)) ≡ suc (getD b keptAt 0) = omega arith in rw q
     go false e =
-        let l = ltb-false (getD b keptAt 0) depth e in let q : min depth (suc (getD b keptAt 0)) ≡ getD b keptAt 0 = omega arith in rw q (sym (set-getD b keptAt 0))
+        let l = ltb-false (getD b keptAt 0) (depthOf b) e in
+        let q : min (depthOf b) (suc (getD b keptAt 0)) ≡ getD b keptAt 0 = omega arith in
+        rw q (sym (set-getD b keptAt 0))
 
--- The bytes d hold the log that the bytes b hold, with u in the next entry.
+-- The bytes d hold the log that the bytes b hold, as deep, with u in the next entry.
 pub record Logs (b d : List ℕ) (u : Undo) : Type 0 where
   pub kept-is : getD d keptAt 0 ≡ getD b keptAt 0
   pub next-is : getD d nextAt 0 ≡ getD b nextAt 0
+  pub depth-is : depthOf d ≡ depthOf b
   pub latest-is : undoAt d (nextOf b) ≡ u
   pub others-are : (e : ℕ) → e < ring → e ≢ nextOf b → undoAt d e ≡ undoAt b e
 
 -- so they do after a change of bytes of no log
-pub logs-still : {lo hi : ℕ} {b c d : List ℕ} {u : Undo} → Within lo hi c d → (lo ≤ nextAt → keptAt < hi → ⊥) → hi ≤ ringAt → Logs b c u → Logs b d u
+pub logs-still : {lo hi : ℕ} {b c d : List ℕ} {u : Undo} → Within lo hi c d → (lo ≤ depthAt → keptAt < hi → ⊥) → hi ≤ ringAt → Logs b c u → Logs b d u
 logs-still w n l h =
     record {
       kept-is = w .outside keptAt (λ p q. n (omega arith) (omega arith)) ∙ h .kept-is;
       next-is = w .outside nextAt (λ p q. n (omega arith) (omega arith)) ∙ h .next-is;
+      depth-is = depth-by w (λ p q. n (omega arith) (omega arith)) ∙ h .depth-is;
       latest-is = undo-apart w _ (λ o p q x y. omega arith) ∙ h .latest-is;
       others-are = λ e k d. undo-apart w e (λ o p q x y. omega arith) ∙ h .others-are e k d;
     }
@@ -182,25 +194,28 @@ pub record Does (b d : List ℕ) (u : Undo) (ms : List Module) : Type 0 where
   pub modules-are : stateOf d .modules ≡ ms
 
 -- and after it is counted
-module _ (b d : List ℕ) (u : Undo) (ms : List Module) (does : Does b d u ms) (few : keptOf b ≤ depth) where
+module _ (b d : List ℕ) (u : Undo) (ms : List Module) (does : Does b d u ms) (few : keptOf b ≤ depthOf b) (deep : depthOf b ≤ ring) where
   kept-same : keptOf d ≡ keptOf b
   unfolding keptOf
   kept-same = does .logs .kept-is
 
-  counted : stepped d ≡ set (set d keptAt (min depth (suc (keptOf b)))) nextAt ((getD b nextAt 0 + 1) % 256)
+  counted : stepped d ≡ set (set d keptAt (min (depthOf b) (suc (keptOf b)))) nextAt ((getD b nextAt 0 + 1) % 256)
   unfolding stepped
-  counted = rw (one-more d (rw kept-same few), kept-same, does .logs .next-is)
+  counted = rw (one-more d (rw (kept-same, does .logs .depth-is) few), kept-same, does .logs .depth-is, does .logs .next-is)
 
   pub stepped-good : Good (stepped d)
   stepped-good = rw counted (steer-good d _ _ (does .good .whole) (does .good))
 
-  pub stepped-state : stateOf (stepped d) ≡ record { modules = ms; log = take depth (u ∷ stateOf b .log) }
+  pub stepped-depth : depthOf (stepped d) ≡ depthOf b
+  stepped-depth = rw counted (steer-depth d _ _ (does .good .whole) ∙ does .logs .depth-is)
+
+  pub stepped-state : stateOf (stepped d) ≡ record { modules = ms; log = take (depthOf b) (u ∷ stateOf b .log) }
   unfolding stateOf
   stepped-state =
       rw (
         counted,
-        steer-state d (min depth (suc (keptOf b))) ((getD b nextAt 0 + 1) % 256) (does .good .whole) ms (following (nextOf b)) (does .modules-are) (following-is b),
+        steer-state d (min (depthOf b) (suc (keptOf b))) ((getD b nextAt 0 + 1) % 256) (does .good .whole) ms (following (nextOf b)) (does .modules-are) (following-is b),
         tab-set ring (undoAt b) (undoAt d) (nextOf b) u same (λ m. does .logs .latest-is) (does .logs .others-are),
       )
       (ap {B = State} (λ us. record { modules = ms; log = us })
-      (push depth (keptOf b) (nextOf b) (tab ring (undoAt b)) u (omega arith) (next-small b) (length-tab ring (undoAt b))))
+      (push (depthOf b) (keptOf b) (nextOf b) (tab ring (undoAt b)) u deep (next-small b) (length-tab ring (undoAt b))))

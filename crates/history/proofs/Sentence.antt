@@ -174,13 +174,13 @@ type-said [] a = inr (record { no-entry = λ n f before s e. nobody s; no-type =
 type-said (f ∷ S) a = type-step f S a (typeOf S a) (eqb (address f) a) refl (heardAs f S) refl (type-said S a)
 
 pub sentence : Sentence
-sentence b whole h a =
+sentence b whole d allowed h a =
     record {
-      type = typeOf (standing h) a;
-      known = latest (standing h) a;
-      tells = demand-3 b whole h .each a;
-      type-said = type-said (standing h) a;
-      place-said = place-said (standing h) a;
+      type = typeOf (standing d h) a;
+      known = latest (standing d h) a;
+      tells = demand-3 b whole d allowed h .each a;
+      type-said = type-said (standing d h) a;
+      place-said = place-said (standing d h) a;
     }
 
 -- ---- and no other

@@ -16,7 +16,7 @@ use Rattle.laws.proofs.Testing.{and-both}
 use Rattle.places.specs.Limits.{room, ring, mostPlaces}
 use Rattle.places.specs.Places.{places}
 use Rattle.places.specs.Layout.{countAt, slotAt, recordSize, recordAt, kindAt, placeAt, ringAt, oldSize, oldAt, size}
-use Rattle.places.specs.Head.{modulesOf}
+use Rattle.places.specs.Head.{modulesOf, depthOf}
 use Rattle.picture.specs.Stores.{copied}
 use Rattle.picture.specs.Log.{didEnter}
 use Rattle.picture.specs.Stepping.{offsetOf, undone}
@@ -24,7 +24,7 @@ use Rattle.history.specs.Machine.{Cell, Module, nobody, Undo, same, ente
 use Rattle.history.specs.Refinement.{recordOf, placeOf, cellAt, moduleAt, oldCell, wroteAt, undoAt, stateOf, Good, Found}
 use Rattle.history.proofs.Modules.{butLast-append}
 use Rattle.history.proofs.Stores.{Within, within-wider, within-set, laid-within, copied-lays, copied-at, cell-outside, row}
-use Rattle.history.proofs.Parts.{module-apart, undo-apart, modules-few, modules-stored, good-still, good-within, record-changed}
+use Rattle.history.proofs.Parts.{module-apart, undo-apart, modules-few, depth-by, modules-stored, good-still, good-within, record-changed}
 use Rattle.history.proofs.Told.{row-at}
 
 butLast-none : (f : ℕ → Module) → butLast (tab 0 f) ≡ tab 0 f
@@ -129,13 +129,14 @@ module _ (b : List ℕ) (e s i : ℕ) (whole : size ≤ length b) (e-ok : e < ri
 -- What an entry undoes, by the two sides.
 pub record Undone (b c : List ℕ) (u : Undo) : Type 0 where
   pub good : Good c
+  pub depth-is : depthOf c ≡ depthOf b
   pub modules-are : stateOf c .modules ≡ undo u (stateOf b .modules)
   pub undo-is : (j : ℕ) → undoAt c j ≡ undoAt b j
 
 module _ (b : List ℕ) (e : ℕ) (good : Good b) (e-ok : e < ring) where
   nothing-undone : Undone b b same
   unfolding undo
-  nothing-undone = record { good = good; modules-are = refl; undo-is = λ j. refl }
+  nothing-undone = record { good = good; depth-is = refl; modules-are = refl; undo-is = λ j. refl }
 
   last-undone : Undone b (set b countAt (pred (modulesOf b))) entered
   unfolding undo stateOf
@@ -146,6 +147,7 @@ module _ (b : List ℕ) (e : ℕ) (good : Good b) (e-ok : e < ring) where
         good =
             good-still b (set b countAt (pred (modulesOf b))) good (w .long) (omega arith) (λ s h. w .outside (recordAt s) (λ p q. omega arith))
             (λ a h. w .outside (slotAt a) (λ p q. omega arith));
+        depth-is = depth-by w (λ p q. omega arith);
         modules-are =
             rw n
             (tab-ext (pred (modulesOf b)) (moduleAt (set b countAt (pred (modulesOf b)))) (moduleAt b) (λ j l. module-apart w j (λ o p q x y. omega arith))
@@ -172,6 +174,7 @@ module _ (b : List ℕ) (e : ℕ) (good : Good b) (e-ok : e < ring) where
           let u : Undone b (copied b (placeAt (recordOf o) (placeOf o)) (oldAt e) oldSize) (back o) =
           record {
             good = good-within w (λ p q. omega arith) (λ a l p q. omega arith) (λ s l p q. omega arith) good;
+            depth-is = depth-by w (λ p q. omega arith);
             modules-are = restored-modules b e (recordOf o) (placeOf o) (good .whole) e-ok s-ok begins;
             undo-is = λ j. undo-apart w j (λ o p q x y. omega arith);
           } in

@@ -9,7 +9,7 @@ use Rattle.places.specs.declared.answers.Answer.the-variants.{Value, NotHeard, 
 use Rattle.places.specs.Layout.{size}
 use Rattle.questions.specs.Question.{Question, Reply, build-year, cell, led, blind}
 use Rattle.questions.specs.Replies.{reply}
-use Rattle.history.specs.Standing.{Event, hear, back, standing, typeOf, latest}
+use Rattle.history.specs.Standing.{Event, hear, back, deepest, standing, typeOf, latest}
 use Rattle.history.specs.Asked.{toldReply}
 use Rattle.history.specs.Demand3.{runBytes}
 
@@ -30,9 +30,9 @@ ir = low (0xFF ∷ 0x0A ∷ 0x12 ∷ 0x34 ∷ 0x01 ∷ 0x0C ∷ 0x05 ∷ [])
 abbrev pub bl : Event
 bl = low (0xFF ∷ 0x03 ∷ 0x00 ∷ 0x0C ∷ 0x05 ∷ [])
 
--- what the standing frames tell after the events
-abbrev pub toldTo : List Event → Question → List ℕ → Reply
-toldTo es q out = toldReply (typeOf (standing (reverse es)) example) (latest (standing (reverse es)) example) q out
+-- what the standing frames tell after the events, from a fresh picture of the depth d
+abbrev pub toldTo : ℕ → List Event → Question → List ℕ → Reply
+toldTo d es q out = toldReply (typeOf (standing d (reverse es)) example) (latest (standing d (reverse es)) example) q out
 
 pub record Case : Type 0 where
   pub events : List Event
@@ -43,7 +43,7 @@ abbrev pub case : List Event → Question → Answer → Case
 case es q x = record { events = es; asked = q; answer = x }
 
 abbrev pub ask : Case → Answer
-ask c = toldTo (c .events) (c .asked) [] .answer
+ask c = toldTo deepest (c .events) (c .asked) [] .answer
 
 abbrev pub cases : List Case
 cases =
@@ -69,4 +69,4 @@ cases =
 pub record Worked : Type 0 where
   pub numbers : map ask cases ≡ map (λ (c : Case). c .answer) cases
   -- and so are they by the bytes, from any fresh picture
-  pub by-bytes : (b : List ℕ) → size ≤ length b → (c : Case) → reply (runBytes b (reverse (c .events))) example (c .asked) [] .answer ≡ ask c
+  pub by-bytes : (b : List ℕ) → size ≤ length b → (c : Case) → reply (runBytes b deepest (reverse (c .events))) example (c .asked) [] .answer ≡ ask c

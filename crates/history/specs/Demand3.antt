@@ -13,28 +13,28 @@ use Rattle.places.specs.Result.{Result}
 use Rattle.places.specs.Layout.{size}
 use Rattle.picture.specs.Hearing.{hearing}
 use Rattle.picture.specs.Stepping.{steppingBack}
-use Rattle.picture.specs.Fresh.{freshening}
+use Rattle.picture.specs.Fresh.{fresheningWith}
 use Rattle.questions.specs.Question.{Question}
 use Rattle.questions.specs.Replies.{reply, keptAnswer, listing}
-use Rattle.history.specs.Standing.{Frame, Known, typeOf, latest, listed, Event, hear, back, standing, kept, answered, outcomeOf}
+use Rattle.history.specs.Standing.{Frame, Known, typeOf, latest, listed, Event, hear, back, deepest, standing, kept, answered, outcomeOf}
 use Rattle.history.specs.Asked.{yesIf, toldReply, toldListed}
 use Rattle.history.specs.Machine.{Module, run, step, find, kindOf}
 
 -- ---- the machine
-pub record Agrees (h : List Event) : Type 0 where
+pub record Agrees (d : ℕ) (h : List Event) : Type 0 where
   -- the count kept
-  pub count : length (run h .log) ≡ kept h
+  pub count : length (run d h .log) ≡ kept d h
   -- which addresses are listed, and with which type
-  pub type-at : (a : ℕ) → kindOf (find (run h .modules) a) ≡ typeOf (standing h) a
+  pub type-at : (a : ℕ) → kindOf (find (run d h .modules) a) ≡ typeOf (standing d h) a
   -- every place of every module
-  pub place-at : (a : ℕ) (m : Module) → find (run h .modules) a ≡ some m → (p : ℕ) → p < places → getD (m .places) p none ≡ some (latest (standing h) a p)
+  pub place-at : (a : ℕ) (m : Module) → find (run d h .modules) a ≡ some m → (p : ℕ) → p < places → getD (m .places) p none ≡ some (latest (standing d h) a p)
   -- the room taken
-  pub taken : length (run h .modules) ≡ listed (standing h)
+  pub taken : length (run d h .modules) ≡ listed (standing d h)
   -- the answer to whatever comes next
-  pub next : (e : Event) → step e (run h) .answer ≡ answered h e
+  pub next : (e : Event) → step d e (run d h) .answer ≡ answered d h e
 
 abbrev pub MachineAgrees : Type 0
-MachineAgrees = (h : List Event) → Agrees h
+MachineAgrees = (d : ℕ) (h : List Event) → Agrees d h
 
 -- The number of modules listed is the number of the 256 addresses with a type.
 unfoldable pub listedBelow : ℕ → List Frame → ℕ
@@ -50,10 +50,10 @@ unfoldable pub doing : Event → List ℕ → Result
 doing (hear f) b = hearing b (f .identifier) (f .remote) (f .bytes)
 doing back b = steppingBack b
 
--- the bytes after a run of events, latest first, from a fresh picture laid into the bytes b
-unfoldable pub runBytes : List ℕ → List Event → List ℕ
-runBytes b [] = freshening b .buffer
-runBytes b (e ∷ h) = doing e (runBytes b h) .buffer
+-- the bytes after a run of events, latest first, from a fresh picture of the depth d laid into the bytes b
+unfoldable pub runBytes : List ℕ → ℕ → List Event → List ℕ
+runBytes b d [] = fresheningWith b d .buffer
+runBytes b d (e ∷ h) = doing e (runBytes b d h) .buffer
 
 -- the same with the events in the order in which they happen
 unfoldable pub runsBytes : List ℕ → List Event → List ℕ
@@ -61,21 +61,22 @@ runsBytes b [] = b
 runsBytes b (e ∷ es) = runsBytes (doing e b .buffer) es
 
 abbrev pub InOrder : Type 0
-InOrder = (b : List ℕ) (es : List Event) → runsBytes (freshening b .buffer) es ≡ runBytes b (reverse es)
+InOrder = (b : List ℕ) (d : ℕ) (es : List Event) → runsBytes (fresheningWith b d .buffer) es ≡ runBytes b d (reverse es)
 
 -- Every question on the address a, with any lent buffer, is answered as the type t and what is known of each place tell.
 abbrev pub Tells : List ℕ → ℕ → Option ℕ → (ℕ → Known) → Type 0
 Tells b a t known = (q : Question) (out : List ℕ) → reply b a q out ≡ toldReply t known q out
 
 -- every question, and the answer to every next event
-pub record Answers (b : List ℕ) (h : List Event) : Type 0 where
-  pub count : keptAnswer b ≡ Value (kept h)
-  pub addresses-listed : (out : List ℕ) → listing b out ≡ toldListed (standing h) out
-  pub each : (a : ℕ) → Tells b a (typeOf (standing h) a) (latest (standing h) a)
-  pub next : (e : Event) → doing e b .outcome ≡ outcomeOf (answered h e)
+pub record Answers (b : List ℕ) (d : ℕ) (h : List Event) : Type 0 where
+  pub count : keptAnswer b ≡ Value (kept d h)
+  pub addresses-listed : (out : List ℕ) → listing b out ≡ toldListed (standing d h) out
+  pub each : (a : ℕ) → Tells b a (typeOf (standing d h) a) (latest (standing d h) a)
+  pub next : (e : Event) → doing e b .outcome ≡ outcomeOf (answered d h e)
 
+-- for every depth that may be named, every buffer and every run of events
 abbrev pub Demand3 : Type 0
-Demand3 = (b : List ℕ) → size ≤ length b → (h : List Event) → Answers (runBytes b h) h
+Demand3 = (b : List ℕ) → size ≤ length b → (d : ℕ) → d ≤ deepest → (h : List Event) → Answers (runBytes b d h) d h
 
 -- A refusal changes no byte, whatever the bytes are.
 abbrev pub RefusedKeeps : Type 0

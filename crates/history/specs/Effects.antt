@@ -17,7 +17,7 @@ use Rattle.places.specs.Runs.{Run, said, Meaning, refuses, names, enters, meani
 use Rattle.places.specs.Layout.{size}
 use Rattle.questions.specs.Question.{Question}
 use Rattle.questions.specs.Replies.{reply, listing}
-use Rattle.history.specs.Standing.{mostListed, Frame, address, sense, meaning, Known, unknown, after, typeOf, latest, listed, accepted, judgement, Event, hear, back, standing, kept}
+use Rattle.history.specs.Standing.{mostListed, deepest, Frame, address, sense, meaning, Known, unknown, after, typeOf, latest, listed, accepted, judgement, Event, hear, back, standing, kept}
 use Rattle.history.specs.Demand3.{doing, runBytes, Tells}
 
 -- Every question on the address a, with any lent buffer, is answered alike.
@@ -38,13 +38,13 @@ pub record Effect (b c : List ℕ) (S : List Frame) (f : Frame) : Type 0 where
 -- An accepted frame changes the module that it addresses, as its run says, and no other.
 abbrev pub Effects : Type 0
 Effects =
-    (b : List ℕ) → size ≤ length b → (h : List Event) (f : Frame) → doing (hear f) (runBytes b h) .outcome ≡ Done
-    → Effect (runBytes b h) (doing (hear f) (runBytes b h) .buffer) (standing h) f
+    (b : List ℕ) → size ≤ length b → (d : ℕ) → d ≤ deepest → (h : List Event) (f : Frame) → doing (hear f) (runBytes b d h) .outcome ≡ Done
+    → Effect (runBytes b d h) (doing (hear f) (runBytes b d h) .buffer) (standing d h) f
 
 -- The same by what the reader gives. The frame is accepted, and its address then tells this:
-pub record HeardAs (b : List ℕ) (h : List Event) (f : Frame) (t : Option ℕ) (known : ℕ → Known) : Type 0 where
-  pub answer : doing (hear f) (runBytes b h) .outcome ≡ Done
-  pub tells : Tells (doing (hear f) (runBytes b h) .buffer) (address f) t known
+pub record HeardAs (b : List ℕ) (d : ℕ) (h : List Event) (f : Frame) (t : Option ℕ) (known : ℕ → Known) : Type 0 where
+  pub answer : doing (hear f) (runBytes b d h) .outcome ≡ Done
+  pub tells : Tells (doing (hear f) (runBytes b d h) .buffer) (address f) t known
 
 abbrev pub Reads : ℕ → Frame → Command → Type 0
 Reads kind f m = reading kind (f .identifier) (f .remote) (f .bytes) ≡ Read (addressOf (f .identifier)) (message.Tells m)
@@ -52,24 +52,24 @@ Reads kind f m = reading kind (f .identifier) (f .remote) (f .bytes) ≡ Read (a
 -- a command at a listed module, also FF of the module's own type: the places of its run, and no other, hold what it says
 abbrev pub HearsCommand : Type 0
 HearsCommand =
-    (b : List ℕ) → size ≤ length b → (h : List Event) (f : Frame) (kind : ℕ) (m : Command) (r : Run) → typeOf (standing h) (address f) ≡ some kind
+    (b : List ℕ) → size ≤ length b → (d : ℕ) → d ≤ deepest → (h : List Event) (f : Frame) (kind : ℕ) (m : Command) (r : Run) → typeOf (standing d h) (address f) ≡ some kind
     → Reads kind f m → sense (some kind) (meaningOf kind m) ≡ names r
-    → HeardAs b h f (some kind) (λ p. after (said r p) (latest (standing h) (address f) p))
+    → HeardAs b d h f (some kind) (λ p. after (said r p) (latest (standing d h) (address f) p))
 
 -- FF at an unlisted address while there is room: a module with nothing known but its build
 abbrev pub HearsEntry : Type 0
 HearsEntry =
-    (b : List ℕ) → size ≤ length b → (h : List Event) (f : Frame) (m : Command) (k : ℕ) (r : Run) → typeOf (standing h) (address f) ≡ none
-    → Reads noType f m → meaningOf noType m ≡ enters k r → listed (standing h) < mostListed → HeardAs b h f (some k) (λ p. after (said r p) unknown)
+    (b : List ℕ) → size ≤ length b → (d : ℕ) → d ≤ deepest → (h : List Event) (f : Frame) (m : Command) (k : ℕ) (r : Run) → typeOf (standing d h) (address f) ≡ none
+    → Reads noType f m → meaningOf noType m ≡ enters k r → listed (standing d h) < mostListed → HeardAs b d h f (some k) (λ p. after (said r p) unknown)
 
 -- FF of another type at a listed module: likewise, and no step back is kept
 abbrev pub HearsExchange : Type 0
 HearsExchange =
-    (b : List ℕ) → size ≤ length b → (h : List Event) (f : Frame) (kind : ℕ) (m : Command) (k : ℕ) (r : Run) → typeOf (standing h) (address f) ≡ some kind
+    (b : List ℕ) → size ≤ length b → (d : ℕ) → d ≤ deepest → (h : List Event) (f : Frame) (kind : ℕ) (m : Command) (k : ℕ) (r : Run) → typeOf (standing d h) (address f) ≡ some kind
     → Reads kind f m → meaningOf kind m ≡ enters k r → k ≢ kind
-    → HeardAs b h f (some k) (λ p. after (said r p) unknown) × (kept (hear f ∷ h) ≡ 0)
+    → HeardAs b d h f (some k) (λ p. after (said r p) unknown) × (kept d (hear f ∷ h) ≡ 0)
 
--- A step back over an accepted frame (no exchange): every question is answered as before the frame.
+-- A step back over an accepted frame (no exchange), at any depth but 0: every question is answered as before the frame.
 pub record SameAnswers (b c : List ℕ) : Type 0 where
   pub addresses-listed : (out : List ℕ) → listing b out ≡ listing c out
   pub each : (a : ℕ) → Alike b c a
@@ -77,10 +77,10 @@ pub record SameAnswers (b c : List ℕ) : Type 0 where
 
 abbrev pub BackOver : Type 0
 BackOver =
-    (b : List ℕ) → size ≤ length b → (h : List Event) (f : Frame) → judgement (standing h) f ≡ accepted
-    → SameAnswers (runBytes b h) (runBytes b (back ∷ hear f ∷ h))
+    (b : List ℕ) → size ≤ length b → (d : ℕ) → d ≤ deepest → (h : List Event) (f : Frame) → 0 < d → judgement (standing d h) f ≡ accepted
+    → SameAnswers (runBytes b d h) (runBytes b d (back ∷ hear f ∷ h))
 
--- The sixteenth module is entered by f, and g would enter a seventeenth: it is refused; after a step back it has the room.
+-- The sixteenth module is entered by f, and g would enter a seventeenth: it is refused; after a step back, where one is granted, it has the room.
 pub record Sixteenth (S : List Frame) (f g : Frame) (k l : ℕ) (r q : Run) : Type 0 where
   pub fifteen : suc (listed S) ≡ mostListed
   pub f-new : typeOf S (address f) ≡ none
@@ -89,12 +89,12 @@ pub record Sixteenth (S : List Frame) (f g : Frame) (k l : ℕ) (r q : Run) : Ty
   pub apart : address f ≢ address g
   pub g-enters : meaning none g ≡ enters l q
 
-pub record RoomAgain (b : List ℕ) (h : List Event) (f g : Frame) : Type 0 where
-  pub entered : doing (hear f) (runBytes b h) .outcome ≡ Done
-  pub full : doing (hear g) (runBytes b (hear f ∷ h)) .outcome ≡ Refused noRoom
-  pub gone : Alike (runBytes b h) (runBytes b (back ∷ hear f ∷ h)) (address f)
-  pub again : doing (hear g) (runBytes b (back ∷ hear f ∷ h)) .outcome ≡ Done
+pub record RoomAgain (b : List ℕ) (d : ℕ) (h : List Event) (f g : Frame) : Type 0 where
+  pub entered : doing (hear f) (runBytes b d h) .outcome ≡ Done
+  pub full : doing (hear g) (runBytes b d (hear f ∷ h)) .outcome ≡ Refused noRoom
+  pub gone : Alike (runBytes b d h) (runBytes b d (back ∷ hear f ∷ h)) (address f)
+  pub again : doing (hear g) (runBytes b d (back ∷ hear f ∷ h)) .outcome ≡ Done
 
 abbrev pub RoomUsedAgain : Type 0
 RoomUsedAgain =
-    (b : List ℕ) → size ≤ length b → (h : List Event) (f g : Frame) (k l : ℕ) (r q : Run) → Sixteenth (standing h) f g k l r q → RoomAgain b h f g
+    (b : List ℕ) → size ≤ length b → (d : ℕ) → d ≤ deepest → (h : List Event) (f g : Frame) (k l : ℕ) (r q : Run) → 0 < d → Sixteenth (standing d h) f g k l r q → RoomAgain b d h f g

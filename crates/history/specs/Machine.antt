@@ -7,7 +7,7 @@ use mathlib.Core.Option.{Option, none, some}
 use lib.Dec.{eqb, ltb}
 use lib.ListN.{length, getD, set, take, replicate}
 use Rattle.laws.specs.Refusals.{noRoom, nothingKept}
-use Rattle.places.specs.Limits.{room, depth, mostPlaces}
+use Rattle.places.specs.Limits.{room, mostPlaces}
 use Rattle.places.specs.Places.{places}
 use Rattle.places.specs.Runs.{Run, Saying, silent, asks, tells, Meaning, refuses, names, enters}
 use Rattle.history.specs.Standing.{address, meaning, Known, unknown, told, Judgement, refused, accepted, exchanged, Event, hear, back}
@@ -101,36 +101,36 @@ undo entered ms = butLast ms
 undo (wrote s i os) ms = set ms s (restored i os (getD ms s nobody))
 undo lost ms = ms
 
--- A step that is logged: the oldest entry goes where the log is full.
-unfoldable pub logged : List Module → Undo → List Undo → Step
-logged ms u log = record { state = record { modules = ms; log = take depth (u ∷ log) }; answer = accepted }
+-- A step that is logged, d deep: the oldest entry goes where the log is full.
+unfoldable pub logged : ℕ → List Module → Undo → List Undo → Step
+logged d ms u log = record { state = record { modules = ms; log = take d (u ∷ log) }; answer = accepted }
 
 unfoldable pub kept-as : State → ℕ → Step
 kept-as s n = record { state = s; answer = refused n }
 
 -- A run heard by the module m in slot i; one of no place has no effect.
-unfoldable pub told-in : List Saying → ℕ → Run → Module → State → Step
-told-in [] i r m s = logged (s .modules) same (s .log)
-told-in (x ∷ xs) i r m s = logged (set (s .modules) i (told-by r m)) (wrote i (r .start) (olds (m .places) (r .start))) (s .log)
+unfoldable pub told-in : ℕ → List Saying → ℕ → Run → Module → State → Step
+told-in d [] i r m s = logged d (s .modules) same (s .log)
+told-in d (x ∷ xs) i r m s = logged d (set (s .modules) i (told-by r m)) (wrote i (r .start) (olds (m .places) (r .start))) (s .log)
 
-unfoldable pub hears : Option Module → ℕ → Meaning → State → Step
-hears x a (refuses n) s = kept-as s n
-hears none a (names r) s = logged (s .modules) same (s .log)
-hears (some m) a (names r) s = told-in (r .says) (slot (s .modules) a) r m s
-hears none a (enters k r) s =
-    cond (ltb (length (s .modules)) room) (logged (s .modules ++ (new a k r ∷ [])) entered (s .log)) (kept-as s noRoom)
-hears (some m) a (enters k r) s =
+unfoldable pub hears : ℕ → Option Module → ℕ → Meaning → State → Step
+hears d x a (refuses n) s = kept-as s n
+hears d none a (names r) s = logged d (s .modules) same (s .log)
+hears d (some m) a (names r) s = told-in d (r .says) (slot (s .modules) a) r m s
+hears d none a (enters k r) s =
+    cond (ltb (length (s .modules)) room) (logged d (s .modules ++ (new a k r ∷ [])) entered (s .log)) (kept-as s noRoom)
+hears d (some m) a (enters k r) s =
     record { state = record { modules = set (s .modules) (slot (s .modules) a) (new a k r); log = [] }; answer = exchanged }
 
 unfoldable pub backs : List Module → List Undo → Step
 backs ms [] = kept-as (record { modules = ms; log = [] }) nothingKept
 backs ms (u ∷ log) = record { state = record { modules = undo u ms; log = log }; answer = accepted }
 
-unfoldable pub step : Event → State → Step
-step (hear f) s = hears (find (s .modules) (address f)) (address f) (meaning (kindOf (find (s .modules) (address f))) f) s
-step back s = backs (s .modules) (s .log)
+unfoldable pub step : ℕ → Event → State → Step
+step d (hear f) s = hears d (find (s .modules) (address f)) (address f) (meaning (kindOf (find (s .modules) (address f))) f) s
+step d back s = backs (s .modules) (s .log)
 
 -- The state after a run of events, latest first, from a fresh one.
-unfoldable pub run : List Event → State
-run [] = fresh
-run (e ∷ h) = step e (run h) .state
+unfoldable pub run : ℕ → List Event → State
+run d [] = fresh
+run d (e ∷ h) = step d e (run d h) .state

@@ -8,10 +8,10 @@ use mathlib.Core.Option.{none, some}
 use lib.Dec.{eqb, ltb, leb}
 use lib.ListN.{getD, length}
 use Rattle.laws.specs.Tab.{tab}
-use Rattle.places.specs.Limits.{depth, ring, addresses, mostPlaces}
+use Rattle.places.specs.Limits.{ring, addresses, mostPlaces}
 use Rattle.places.specs.Places.{places}
 use Rattle.places.specs.Layout.{slotAt, recordsAt, recordHead, recordSize, recordAt, kindAt, placeAt, ringAt, oldSize, oldAt, size}
-use Rattle.places.specs.Head.{modulesOf, keptOf, nextOf, before}
+use Rattle.places.specs.Head.{modulesOf, keptOf, nextOf, depthOf, before}
 use Rattle.picture.specs.Log.{didEnter}
 use Rattle.picture.specs.Stepping.{offsetOf}
 use Rattle.history.specs.Standing.{unknown, told, outcomeOf, Event}
@@ -79,14 +79,15 @@ abbrev pub AllFound : List Undo → Type 0
 AllFound [] = Unit {0}
 AllFound (u ∷ us) = Found u × AllFound us
 
-abbrev pub Sound : List Undo → Type 0
-Sound us = (length us ≤ depth) × AllFound us
+abbrev pub Sound : ℕ → List Undo → Type 0
+Sound d us = (length us ≤ d) × AllFound us
 
--- One step on the bytes is one step of the machine.
+-- One step on the bytes is one step of the machine, as deep as the bytes say, and leaves the depth as it was.
 pub record Refines (e : Event) (b : List ℕ) : Type 0 where
   pub good : Good (doing e b .buffer)
-  pub state : stateOf (doing e b .buffer) ≡ step e (stateOf b) .state
-  pub answer : doing e b .outcome ≡ outcomeOf (step e (stateOf b) .answer)
+  pub depth : depthOf (doing e b .buffer) ≡ depthOf b
+  pub state : stateOf (doing e b .buffer) ≡ step (depthOf b) e (stateOf b) .state
+  pub answer : doing e b .outcome ≡ outcomeOf (step (depthOf b) e (stateOf b) .answer)
 
 abbrev pub OneStep : Type 0
-OneStep = (e : Event) (b : List ℕ) → Good b → Sound (stateOf b .log) → Refines e b
+OneStep = (e : Event) (b : List ℕ) → Good b → depthOf b ≤ ring → Sound (depthOf b) (stateOf b .log) → Refines e b

@@ -8,7 +8,7 @@ use mathlib.Core.Option.{Option, none, some}
 use lib.ListN.{length, drop}
 use Rattle.places.specs.Layout.{size}
 use Rattle.places.specs.Runs.{Run, Saying, silent, asks, tells, said, Meaning, refuses, names, enters, runIn}
-use Rattle.history.specs.Standing.{Frame, address, meaning, typeOf, Known, unknown, told, Event, standing}
+use Rattle.history.specs.Standing.{Frame, address, meaning, typeOf, Known, unknown, told, Event, deepest, standing}
 use Rattle.history.specs.Demand3.{runBytes, Tells}
 
 -- ---- a standing frame
@@ -90,7 +90,7 @@ pub record Shown (b : List ℕ) (S : List Frame) (a : ℕ) : Type 0 where
   pub place-said : (p : ℕ) → PlaceSaid S a p (known p)
 
 abbrev pub Sentence : Type 0
-Sentence = (b : List ℕ) → size ≤ length b → (h : List Event) (a : ℕ) → Shown (runBytes b h) (standing h) a
+Sentence = (b : List ℕ) → size ≤ length b → (d : ℕ) → d ≤ deepest → (h : List Event) (a : ℕ) → Shown (runBytes b d h) (standing d h) a
 
 -- It leaves no choice: two types, or two things known of a place, of which it holds are the same.
 pub record SentenceDecides : Type 0 where

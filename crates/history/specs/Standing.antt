@@ -13,12 +13,12 @@ use Rattle.places.specs.declared.answers.Outcome.{Outcome}
 use Rattle.places.specs.declared.answers.Outcome.the-variants as outcome
 use Rattle.places.specs.Runs.{Saying, silent, asks, tells, said, Meaning, refuses, names, enters, readAs}
 
--- the most modules that are listed, and the most steps back that are kept
+-- the most modules that are listed, and the greatest depth of a way back: the most steps back that a fresh picture may be told to keep
 abbrev pub mostListed : ℕ
 mostListed = 16
 
-abbrev pub mostKept : ℕ
-mostKept = 16
+abbrev pub deepest : ℕ
+deepest = 64
 
 -- A frame as it is heard.
 pub record Frame : Type 0 where
@@ -130,28 +130,29 @@ unfoldable pub struck : ℕ → List Frame → List Frame
 struck zero S = S
 struck (suc k) S = butLatest S
 
--- An accepted frame adds 1 up to the most that are kept; an exchange sets the count to 0.
-unfoldable pub counted : Judgement → ℕ → ℕ
-counted (refused n) k = k
-counted accepted k = min mostKept (suc k)
-counted exchanged k = 0
+-- An accepted frame adds 1 up to the depth; an exchange sets the count to 0.
+unfoldable pub counted : ℕ → Judgement → ℕ → ℕ
+counted depth (refused n) k = k
+counted depth accepted k = min depth (suc k)
+counted depth exchanged k = 0
 
+-- from a fresh picture whose way back has the depth d
 unfoldable mutual
-  pub standing : List Event → List Frame
-  standing [] = []
-  standing (hear f ∷ h) = stands (judgement (standing h) f) f (standing h)
-  standing (back ∷ h) = struck (kept h) (standing h)
+  pub standing : ℕ → List Event → List Frame
+  standing d [] = []
+  standing d (hear f ∷ h) = stands (judgement (standing d h) f) f (standing d h)
+  standing d (back ∷ h) = struck (kept d h) (standing d h)
 
-  pub kept : List Event → ℕ
-  kept [] = 0
-  kept (hear f ∷ h) = counted (judgement (standing h) f) (kept h)
-  kept (back ∷ h) = pred (kept h)
+  pub kept : ℕ → List Event → ℕ
+  kept d [] = 0
+  kept d (hear f ∷ h) = counted d (judgement (standing d h) f) (kept d h)
+  kept d (back ∷ h) = pred (kept d h)
 
 -- The answer to the next event: a step back is granted exactly while the count kept is above zero.
 unfoldable pub granted : ℕ → Judgement
 granted zero = refused nothingKept
 granted (suc k) = accepted
 
-unfoldable pub answered : List Event → Event → Judgement
-answered h (hear f) = judgement (standing h) f
-answered h back = granted (kept h)
+unfoldable pub answered : ℕ → List Event → Event → Judgement
+answered d h (hear f) = judgement (standing d h) f
+answered d h back = granted (kept d h)

@@ -8,6 +8,9 @@ use replay::LISTING_ROOM;
 use replay::Part;
 use replay::Stream;
 
+// The way back's depth on which the classroom program has always relied.
+const DEPTH: u32 = 16;
+
 // What became of the input: what was heard of it, or why it was not heard to its end.
 enum Input {
     Heard(Stream),
@@ -77,7 +80,7 @@ fn put_out(picture: &[u8], stream: Stream) {
 fn main() {
     let mut picture = [0u8; picture::SIZE];
     let mut window = io::large_buffer();
-    let Outcome::Done = picture::fresh(&mut picture) else {
+    let Outcome::Done = picture::fresh_with(&mut picture, DEPTH) else {
         tell(b"listing: there is no room for a picture\n");
         return;
     };

@@ -1,12 +1,24 @@
--- A fresh picture: no module, nothing kept; whatever lay in the rest is never read again. Assumes nothing.
+-- A fresh picture: no module, nothing kept, and a depth of the way back; whatever lay in the rest is never read again. Assumes nothing.
 use Prim.Native.Nat.{ℕ}
 use mathlib.Core.Bool.{cond}
 use mathlib.Core.List.{List}
-use Rattle.laws.specs.Refusals.{tooShort}
-use Rattle.places.specs.Layout.{headSize}
+use lib.Dec.{ltb}
+use lib.ListN.{set}
+use Rattle.laws.specs.Refusals.{noSuchPlace, tooShort}
+use Rattle.places.specs.Limits.{mostDepth}
+use Rattle.places.specs.Layout.{depthAt, headSize}
 use Rattle.places.specs.Result.{Result, refusing, done}
 use Rattle.places.specs.Head.{short}
 use Rattle.picture.specs.Stores.{zeroed}
 
+-- the bytes of it
+abbrev pub freshBytes : List ℕ → ℕ → List ℕ
+freshBytes b depth = set (zeroed b headSize) depthAt depth
+
+-- with a depth that is named: 12 where there is none such
+unfoldable pub fresheningWith : List ℕ → ℕ → Result
+fresheningWith b depth = cond (short b) (refusing tooShort b) (cond (ltb mostDepth depth) (refusing noSuchPlace b) (done (freshBytes b depth)))
+
+-- naming none gives the greatest
 unfoldable pub freshening : List ℕ → Result
-freshening b = cond (short b) (refusing tooShort b) (done (zeroed b headSize))
+freshening b = fresheningWith b mostDepth

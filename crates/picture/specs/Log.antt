@@ -4,9 +4,8 @@ use mathlib.Core.Bool.{cond}
 use mathlib.Core.List.{List, [], _∷_}
 use lib.Dec.{ltb}
 use lib.ListN.{getD, set}
-use Rattle.places.specs.Limits.{depth}
 use Rattle.places.specs.Layout.{keptAt, nextAt, placeAt, oldSize, oldAt, offsetAt}
-use Rattle.places.specs.Head.{keptOf, nextOf}
+use Rattle.places.specs.Head.{keptOf, nextOf, depthOf}
 use Rattle.picture.specs.Stores.{stored, copied}
 
 -- an entry's offset where nothing was written, and where a module was entered
@@ -36,7 +35,7 @@ saved b s start = notedAt (copied b (oldAt (nextOf b)) (placeAt s start) oldSize
 
 -- one step more is kept, up to the depth, and the ring moves on
 abbrev pub oneMore : List ℕ → List ℕ
-oneMore b = cond (ltb (keptOf b) depth) (set b keptAt (suc (keptOf b))) b
+oneMore b = cond (ltb (keptOf b) (depthOf b)) (set b keptAt (suc (keptOf b))) b
 
 unfoldable pub stepped : List ℕ → List ℕ
 stepped b = set (oneMore b) nextAt ((getD b nextAt 0 + 1) % 256)

@@ -1,13 +1,19 @@
 // A fresh picture.
+use laws::NO_SUCH_PLACE;
 use laws::TOO_SHORT;
+use places::DEPTH_AT;
 use places::HEAD_SIZE;
+use places::MOST_DEPTH;
 use places::Outcome;
 use places::SIZE;
 use places::put_at;
 ghost use mathlib.Core.Path.{_≡_};
 ghost use Rattle.places.specs.Layout.{headSize};
 ghost use Rattle.picture.specs.Stores.{zeroed};
-ghost use Rattle.picture.specs.Fresh.{freshening};
+ghost use Rattle.picture.specs.Fresh.{fresheningWith, freshening};
+
+// The greatest depth that may be named, and the one that naming none gives.
+const DEEPEST: u32 = MOST_DEPTH as u32;
 
 fn clear_head(picture: &mut [u8])
     ensures { λ _. ⌜ now (picture .exit) ≡ zeroed (now (picture .entry)) headSize ⌝ }
@@ -19,14 +25,26 @@ fn clear_head(picture: &mut [u8])
     }
 }
 
-// No module, nothing kept; whatever lies in the rest is never read again.
-pub fn fresh(picture: &mut [u8]) -> Outcome
-    ensures { λ r. ⌜ r ≡ freshening (now (picture .entry)) .outcome ⌝ }
-    ensures { λ _. ⌜ now (picture .exit) ≡ freshening (now (picture .entry)) .buffer ⌝ }
+// No module, nothing kept, and a way back of that depth; whatever lies in the rest is never read again.
+pub fn fresh_with(picture: &mut [u8], depth: u32) -> Outcome
+    ensures { λ r. ⌜ r ≡ fresheningWith (now (picture .entry)) depth .outcome ⌝ }
+    ensures { λ _. ⌜ now (picture .exit) ≡ fresheningWith (now (picture .entry)) depth .buffer ⌝ }
 {
     if picture.len() < SIZE {
         return Outcome::Refused(TOO_SHORT);
     }
+    if depth > DEEPEST {
+        return Outcome::Refused(NO_SUCH_PLACE);
+    }
     clear_head(picture);
+    put_at(picture, DEPTH_AT, depth as u8);
     Outcome::Done
+}
+
+// A fresh picture of the greatest depth.
+pub fn fresh(picture: &mut [u8]) -> Outcome
+    ensures { λ r. ⌜ r ≡ freshening (now (picture .entry)) .outcome ⌝ }
+    ensures { λ _. ⌜ now (picture .exit) ≡ freshening (now (picture .entry)) .buffer ⌝ }
+{
+    fresh_with(picture, DEEPEST)
 }

@@ -10,6 +10,7 @@ mod stepping;
 mod telling;
 
 pub use clearing::fresh;
+pub use clearing::fresh_with;
 pub use hearing::hear;
 pub use places::SIZE;
 pub use stepping::step_back;

@@ -2,9 +2,9 @@
 use crate::bytes::copy_sixteen;
 use crate::bytes::store_number;
 use laws::byte_at;
-use places::DEPTH;
 use places::KEPT_AT;
 use places::NEXT_AT;
+use places::depth_of;
 use places::kept_of;
 use places::next_of;
 use places::offset_at;
@@ -42,12 +42,12 @@ pub(crate) fn save(picture: &mut [u8], slot: u8, start: u32)
     note(picture, entry, from as u32);
 }
 
-// One step more, up to the most that are kept.
+// One step more, up to the depth.
 fn keep_more(picture: &mut [u8])
     ensures { λ _. ⌜ now (picture .exit) ≡ oneMore (now (picture .entry)) ⌝ }
 {
     let kept = kept_of(picture);
-    if kept < DEPTH {
+    if kept < depth_of(picture) {
         put_at(picture, KEPT_AT, kept + 1);
     }
 }

@@ -6,18 +6,21 @@ use lib.Dec.{eqb, ltb}
 use lib.ListN.{length, getD}
 use Rattle.frame.specs.Types.{noType}
 use Rattle.places.specs.Limits.{room, ring}
-use Rattle.places.specs.Layout.{countAt, keptAt, nextAt, slotAt, recordAt, kindAt, size}
+use Rattle.places.specs.Layout.{countAt, keptAt, nextAt, depthAt, slotAt, recordAt, kindAt, size}
 
 -- too short for a picture
 abbrev pub short : List ℕ → Bool
 short b = ltb (length b) size
 
--- the number of modules and the ring's next entry, each within its range whatever the byte is; the count kept, which steers no index
+-- the number of modules and the ring's next entry, each within its range whatever the byte is; the count kept and the depth, which steer no index
 unfoldable pub modulesOf : List ℕ → ℕ
 modulesOf b = min room (getD b countAt 0)
 
 unfoldable pub keptOf : List ℕ → ℕ
 keptOf b = getD b keptAt 0
+
+unfoldable pub depthOf : List ℕ → ℕ
+depthOf b = getD b depthAt 0
 
 unfoldable pub nextOf : List ℕ → ℕ
 nextOf b = getD b nextAt 0 % ring

@@ -3,7 +3,7 @@ use Prim.Native.Nat.{ℕ, _+_, _*_}
 use Rattle.places.specs.Limits.{room, ring, addresses, mostPlaces}
 use Rattle.places.specs.Places.{places}
 
--- the head: number of modules, count kept, the ring's next entry, zeros
+-- the head: number of modules, count kept, the ring's next entry, the way back's depth, zeros
 abbrev pub countAt : ℕ
 countAt = 0
 
@@ -12,6 +12,9 @@ keptAt = 1
 
 abbrev pub nextAt : ℕ
 nextAt = 2
+
+abbrev pub depthAt : ℕ
+depthAt = 3
 
 abbrev pub headSize : ℕ
 headSize = 16

@@ -6,13 +6,13 @@ use Rattle.frame.specs.Identifiers.{addressOf}
 abbrev pub room : ℕ
 room = 16
 
--- the most steps back that are kept
-abbrev pub depth : ℕ
-depth = 16
+-- the greatest depth of a way back
+abbrev pub mostDepth : ℕ
+mostDepth = 64
 
--- how many entries the ring of the log has: no fewer than the steps back that are kept
+-- how many entries the ring of the log has, whatever the depth is: no fewer than the steps back that are kept
 abbrev pub ring : ℕ
-ring = 16
+ring = 64
 
 -- the number of addresses
 abbrev pub addresses : ℕ

@@ -1,6 +1,7 @@
-// What steers: how many modules there are, how many steps are kept, the ring's next entry, the slot and the type of an address. Each byte
-// that steers an index is guarded where it is read, so that any bytes at all are safe.
+// What steers: how many modules there are, how many steps are kept and may be, the ring's next entry, the slot and the type of an address.
+// Each byte that steers an index is guarded where it is read, so that any bytes at all are safe.
 use crate::layout::COUNT_AT;
+use crate::layout::DEPTH_AT;
 use crate::layout::KEPT_AT;
 use crate::layout::NEXT_AT;
 use crate::layout::RING;
@@ -12,7 +13,7 @@ use frame::Address;
 use laws::byte_at;
 ghost use mathlib.Core.Path.{_≡_};
 ghost use lib.Dec.{ltb};
-ghost use Rattle.places.specs.Head.{modulesOf, keptOf, nextOf, believed, slotOf, kindIn};
+ghost use Rattle.places.specs.Head.{modulesOf, keptOf, nextOf, depthOf, believed, slotOf, kindIn};
 
 // The slot of no module, and the type of no module.
 pub const NO_SLOT: u8 = ROOM;
@@ -30,6 +31,13 @@ pub fn kept_of(picture: &[u8]) -> u8
     ensures { λ r. ⌜ r ≡ keptOf (now (picture .entry)) ⌝ }
 {
     byte_at(picture, KEPT_AT)
+}
+
+// The most steps that this picture keeps.
+pub fn depth_of(picture: &[u8]) -> u8
+    ensures { λ r. ⌜ r ≡ depthOf (now (picture .entry)) ⌝ }
+{
+    byte_at(picture, DEPTH_AT)
 }
 
 pub fn next_of(picture: &[u8]) -> u8

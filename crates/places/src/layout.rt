@@ -4,24 +4,26 @@ use frame::Address;
 ghost use mathlib.Core.Path.{_≡_};
 ghost use Rattle.places.specs.Layout.{slotAt, recordAt, kindAt, placeAt, oldAt, offsetAt};
 
-// The most modules, the most steps back that are kept, and the entries of the log's ring, which are no fewer.
+// The most modules, the greatest depth of a way back, and the entries of the log's ring, which are no fewer.
 pub const ROOM: u8 = 16;
 
-pub const DEPTH: u8 = 16;
+pub const MOST_DEPTH: u8 = 64;
 
-pub const RING: u8 = 16;
+pub const RING: u8 = 64;
 
 // The number of addresses, and the most places that a frame speaks of.
 pub const ADDRESSES: u32 = 256;
 
 const MOST_PLACES: usize = 8;
 
-// The head: number of modules, count kept, the ring's next entry.
+// The head: number of modules, count kept, the ring's next entry, the way back's depth.
 pub const COUNT_AT: usize = 0;
 
 pub const KEPT_AT: usize = 1;
 
 pub const NEXT_AT: usize = 2;
+
+pub const DEPTH_AT: usize = 3;
 
 pub const HEAD_SIZE: usize = 16;
 

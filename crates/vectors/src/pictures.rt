@@ -48,6 +48,18 @@ pub(crate) fn fresh(t: Tally, of: &[u8], picture: &mut [u8], number: u32) -> Tal
     t.compare(of, b"", got, number)
 }
 
+// A fresh picture that names its depth: taken where the number is 0.
+pub(crate) fn fresh_with(
+    t: Tally,
+    of: &[u8],
+    picture: &mut [u8],
+    depth: u32,
+    number: u32,
+) -> Tally {
+    let got = outcome_number(picture::fresh_with(picture, depth));
+    t.compare(of, b"", got, number)
+}
+
 // A frame: accepted where the number is 0.
 pub(crate) fn heard(
     t: Tally,

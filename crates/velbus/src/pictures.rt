@@ -8,7 +8,7 @@ ghost use mathlib.Core.List.{[]};
 ghost use Rattle.places.specs.Layout.{size};
 ghost use Rattle.picture.specs.Hearing.{hearing};
 ghost use Rattle.picture.specs.Stepping.{steppingBack};
-ghost use Rattle.picture.specs.Fresh.{freshening};
+ghost use Rattle.picture.specs.Fresh.{fresheningWith, freshening};
 ghost use Rattle.questions.specs.Question.{type-of, build-year, build-week, cell, led, blind, name-heard, whole-name, memory-bytes};
 ghost use Rattle.questions.specs.Replies.{keptAnswer, listing, reply};
 ghost use Rattle.velbus.specs.Words.{outcomeWord, answerWord};
@@ -26,6 +26,14 @@ pub extern "C" fn velbus_fresh(picture: &mut [u8]) -> u32
     ensures { λ _. ⌜ now (picture .exit) ≡ freshening (now (picture .entry)) .buffer ⌝ }
 {
     outcome_word(picture::fresh(picture))
+}
+
+#[no_mangle]
+pub extern "C" fn velbus_fresh_depth(picture: &mut [u8], depth: u32) -> u32
+    ensures { λ r. ⌜ r ≡ outcomeWord (fresheningWith (now (picture .entry)) depth .outcome) ⌝ }
+    ensures { λ _. ⌜ now (picture .exit) ≡ fresheningWith (now (picture .entry)) depth .buffer ⌝ }
+{
+    outcome_word(picture::fresh_with(picture, depth))
 }
 
 #[no_mangle]
