@@ -1,147 +1,254 @@
-// Runs frames through the reader, and what was read through the writer.
-use crate::tally::Tally;
+// What the reader and the writer make of frames, by the calls that C has.
+use crate::answers::Words;
+use crate::answers::add;
+use crate::answers::add_byte;
+use crate::answers::add_bytes;
+use crate::answers::add_item;
+use crate::answers::refused;
+use crate::answers::say;
 use crate::text::part;
 use crate::text::past;
-use codec::Frame;
-use codec::Writing;
-use frame::Address;
-use frame::Data;
-use frame::Message;
-use frame::Reading;
-use frame::VMB8IR;
-use laws::wide32;
+use crate::words::FLAGS;
+use crate::words::PRIORITIES;
+use crate::words::Reader;
 
-// 01, "Identifier": 512 × priority + 2 × address, at address H'2A' and at both ends of the addresses.
+// A result word from here on holds a refusal's number, in these units.
+const REFUSAL: u32 = 65536;
+
+// What comes of reading besides a refusal's number: what was read is written as the same frame, or not.
+const KEPT: u8 = 0;
+
+const CHANGED: u8 = 100;
+
+// Identifiers of address H'2A' at lowest and highest priority, and at those that no frame has.
 const LOW: u32 = 1620;
-
-const LOW_FIRST: u32 = 1536;
-
-const LOW_LAST: u32 = 2046;
 
 const HIGH: u32 = 84;
 
-const HIGH_FIRST: u32 = 0;
-
-const HIGH_LAST: u32 = 510;
-
-// The same address at the two priorities that no frame has.
 const SECOND: u32 = 596;
 
 const THIRD: u32 = 1108;
 
+// A type that is none.
 const OTHER_TYPE: u32 = 0x0B;
 
-// What comes out besides a refusal's number: what is expected, or another.
-pub const SAME: u32 = 0;
-
-pub const ANOTHER: u32 = 100;
-
-// Past the count a frame's bytes are 0.
-fn same_bytes(d: Data, s: &[u8]) -> bool {
-    let bytes = [d.1, d.2, d.3, d.4, d.5, d.6, d.7, d.8];
-    let mut expected = [0u8; 8];
-    laws::copy_in(&mut expected, 0, s);
-    d.0 == s.len() && check::same(&bytes, &expected)
+// A message, or a frame, in the layout of docs/INTERFACE.md, or the number of the refusal in its place.
+struct ReadAs {
+    refusal: u8,
+    message: [u8; 20],
 }
 
-fn frame_got(f: Frame, identifier: u32, remote: u32, data: &[u8]) -> u32 {
-    if f.identifier == identifier && f.remote == remote && same_bytes(f.bytes, data) {
-        SAME
+struct WrittenAs {
+    refusal: u8,
+    frame: [u8; 12],
+}
+
+fn refusal(word: u32) -> u8 {
+    (word / REFUSAL % 256) as u8
+}
+
+fn message_of(kind: u32, identifier: u32, remote: u32, data: &[u8]) -> ReadAs {
+    let mut message = [0u8; 20];
+    let word = velbus::velbus_read(kind, identifier, remote, data, &mut message);
+    ReadAs {
+        refusal: refusal(word),
+        message,
+    }
+}
+
+fn frame_of(kind: u32, message: &[u8; 20]) -> WrittenAs {
+    let mut frame = [0u8; 12];
+    let word = velbus::velbus_write(kind, message, &mut frame);
+    WrittenAs {
+        refusal: refusal(word),
+        frame,
+    }
+}
+
+// A frame in the layout of docs/INTERFACE.md: identifier, remote flag, count, and the data with zeros after them.
+fn laid(identifier: u32, remote: u32, data: &[u8]) -> [u8; 12] {
+    let mut out = [
+        (identifier % 256) as u8,
+        (identifier / 256 % 256) as u8,
+        (remote % 256) as u8,
+        (data.len() % 256) as u8,
+        0,
+        0,
+        0,
+        0,
+        0,
+        0,
+        0,
+        0,
+    ];
+    laws::copy_in(&mut out, 4, data);
+    out
+}
+
+fn read_number(kind: u32, identifier: u32, remote: u32, data: &[u8]) -> u8 {
+    let r = message_of(kind, identifier, remote, data);
+    if r.refusal != 0 {
+        return r.refusal;
+    }
+    let message = r.message;
+    let frame = frame_of(kind, &message).frame;
+    if check::same(&frame, &laid(identifier, remote, data)) {
+        KEPT
     } else {
-        ANOTHER
+        CHANGED
     }
 }
 
-// What a message is written as, held against the frame that it was read from.
-fn write_got(kind: u32, a: Address, m: Message, identifier: u32, remote: u32, data: &[u8]) -> u32 {
-    match codec::write(kind, a, m) {
-        Writing::Written(f) => frame_got(f, identifier, remote, data),
-        Writing::Refused(n) => wide32(n),
+pub(crate) fn read(r: Reader, data: &[u8]) -> Words {
+    let n = read_number(r.a, r.b, r.c, data);
+    match n {
+        KEPT => say(b" kept"),
+        CHANGED => say(b" changed"),
+        _ => refused(n),
     }
 }
 
-fn read_got(kind: u32, identifier: u32, remote: u32, data: &[u8]) -> u32 {
-    match codec::read(kind, identifier, remote, data) {
-        Reading::Read(a, m) => write_got(kind, a, m, identifier, remote, data),
-        Reading::Refused(n) => wide32(n),
-    }
-}
-
-// A frame with its remote flag: refused with a number, or, at SAME, accepted, and what is read is written as the same identifier,
-// remote flag, count and bytes.
-pub(crate) fn flagged(
-    t: Tally,
-    of: &[u8],
-    kind: u32,
-    identifier: u32,
-    remote: u32,
-    data: &[u8],
-    number: u32,
-) -> Tally {
-    let got = read_got(kind, identifier, remote, data);
-    t.compare(of, data, got, number)
-}
-
-pub(crate) fn kept(t: Tally, of: &[u8], kind: u32, identifier: u32, data: &[u8]) -> Tally {
-    flagged(t, of, kind, identifier, 0, data, SAME)
-}
-
-pub(crate) fn refused(
-    t: Tally,
-    of: &[u8],
-    kind: u32,
-    identifier: u32,
-    data: &[u8],
-    number: u32,
-) -> Tally {
-    flagged(t, of, kind, identifier, 0, data, number)
-}
-
-// A frame of a document with its last byte left out: 7, and 2 where none is left.
-fn one_less(t: Tally, of: &[u8], kind: u32, identifier: u32, data: &[u8]) -> Tally {
-    let n = data.len();
-    let number = if n == 1 { 2 } else { 7 };
-    let less = part(data, 0, std::num::wrapping_sub_usize(n, 1));
-    refused(t, of, kind, identifier, less, number)
-}
-
-// One byte more: 7, and 2 where that makes nine.
-fn one_more(t: Tally, of: &[u8], kind: u32, identifier: u32, data: &[u8]) -> Tally {
-    let n = data.len();
-    let number = if n == 8 { 2 } else { 7 };
+// The same of a frame with one byte after the data.
+fn ended(r: Reader, data: &[u8], last: u8) -> u8 {
     let mut room = [0u8; 9];
     laws::copy_in(&mut room, 0, data);
-    refused(t, of, kind, identifier, part(&room, 0, past(n, 1)), number)
+    laws::copy_in(&mut room, data.len(), &[last]);
+    read_number(r.a, r.b, r.c, part(&room, 0, past(data.len(), 1)))
 }
 
-// What no layout allows: another length, a remote flag, priorities 1 and 2, a type that is none of 01's.
-fn around(t: Tally, of: &[u8], kind: u32, identifier: u32, data: &[u8]) -> Tally {
-    let t = one_less(t, of, kind, identifier, data);
-    let t = one_more(t, of, kind, identifier, data);
-    let t = flagged(t, of, VMB8IR, identifier, 1, data, 2);
-    let t = flagged(t, of, VMB8IR, identifier, 2, data, 2);
-    let t = refused(t, of, kind, SECOND, data, 3);
-    let t = refused(t, of, kind, THIRD, data, 3);
-    refused(t, of, OTHER_TYPE, identifier, data, 4)
+// What comes of all so far that are not kept, and of one more.
+fn alike(others: u8, n: u8) -> u8 {
+    if others == KEPT {
+        return n;
+    }
+    if others == n { n } else { CHANGED }
 }
 
-// A layout of lowest priority: accepted at every end of the addresses, and nothing around it is.
-pub(crate) fn low(t: Tally, of: &[u8], kind: u32, data: &[u8]) -> Tally {
-    let t = kept(t, of, kind, LOW, data);
-    let t = kept(t, of, kind, LOW_FIRST, data);
-    let t = kept(t, of, kind, LOW_LAST, data);
-    let t = refused(t, of, kind, HIGH, data, 8);
-    let t = refused(t, of, kind, LOW + 1, data, 1);
-    let t = refused(t, of, kind, LOW_LAST + 2, data, 1);
-    around(t, of, kind, LOW, data)
+// Each value of a byte after the data: with which of them the frame is kept, and what comes of all others.
+pub(crate) fn each(r: Reader, data: &[u8]) -> Words {
+    let mut kept = say(b" kept with");
+    let mut others = KEPT;
+    let mut last: u32 = 0;
+    while last < 256 {
+        let n = ended(r, data, (last % 256) as u8);
+        if n == KEPT {
+            kept = add_byte(kept, (last % 256) as u8);
+        } else {
+            others = alike(others, n);
+        }
+        last += 1;
+    }
+    let w = refused(others);
+    let bytes = w.bytes;
+    add(add(kept, b" else"), part(&bytes, 0, w.count))
 }
 
-// A layout of highest priority.
-pub(crate) fn high(t: Tally, of: &[u8], kind: u32, data: &[u8]) -> Tally {
-    let t = kept(t, of, kind, HIGH, data);
-    let t = kept(t, of, kind, HIGH_FIRST, data);
-    let t = kept(t, of, kind, HIGH_LAST, data);
-    let t = refused(t, of, kind, LOW, data, 8);
-    let t = refused(t, of, kind, HIGH + 1, data, 1);
-    around(t, of, kind, HIGH, data)
+// The data with the last byte left out.
+fn less(kind: u32, identifier: u32, data: &[u8]) -> u8 {
+    let n = std::num::wrapping_sub_usize(data.len(), 1);
+    read_number(kind, identifier, 0, part(data, 0, n))
+}
+
+// The data with a byte more.
+fn more(kind: u32, identifier: u32, data: &[u8]) -> u8 {
+    let mut room = [0u8; 9];
+    laws::copy_in(&mut room, 0, data);
+    read_number(kind, identifier, 0, part(&room, 0, past(data.len(), 1)))
+}
+
+// What comes at address H'2A', at the first and at the last; at the other priority, with bit SID0, beyond all identifiers; with a byte
+// less and with a byte more, with remote flags 1 and 2, at the priorities that no frame has, for a type that is none.
+fn around(kind: u32, own: u32, data: &[u8]) -> [u8; 13] {
+    [
+        read_number(kind, own, 0, data),
+        read_number(kind, std::num::wrapping_sub_u32(own, HIGH), 0, data),
+        read_number(kind, std::num::wrapping_add_u32(own, 426), 0, data),
+        read_number(kind, std::num::wrapping_sub_u32(LOW + HIGH, own), 0, data),
+        read_number(kind, std::num::wrapping_add_u32(own, 1), 0, data),
+        read_number(kind, 2048, 0, data),
+        less(kind, own, data),
+        more(kind, own, data),
+        read_number(kind, own, 1, data),
+        read_number(kind, own, 2, data),
+        read_number(kind, SECOND, 0, data),
+        read_number(kind, THIRD, 0, data),
+        read_number(OTHER_TYPE, own, 0, data),
+    ]
+}
+
+// What is to come of a layout of n bytes: 2 where a byte less is none, or a byte more makes nine.
+fn documented_as(n: usize) -> [u8; 13] {
+    let less = if n == 1 { 2 } else { 7 };
+    let more = if n == 8 { 2 } else { 7 };
+    [KEPT, KEPT, KEPT, 8, 1, 1, less, more, 2, 2, 3, 3, 4]
+}
+
+// A layout of the documents, at its priority. Where something else comes than is to come, that is shown.
+pub(crate) fn documented(r: Reader, data: &[u8]) -> Words {
+    let got = around(r.a, r.b, data);
+    let expected = documented_as(data.len());
+    if check::same(&got, &expected) {
+        return say(b" done");
+    }
+    add_bytes(say(b""), &got)
+}
+
+// How many bytes a message has without the zeros at its end.
+fn used(message: &[u8; 20]) -> usize {
+    let mut n: usize = 20;
+    while n > 0 && message[n - 1] == 0 {
+        n -= 1;
+    }
+    n
+}
+
+// The message that a frame is read as, in the layout of docs/INTERFACE.md, without the zeros at its end.
+pub(crate) fn layout(r: Reader, data: &[u8]) -> Words {
+    let m = message_of(r.a, r.b, r.c, data);
+    if m.refusal != 0 {
+        return refused(m.refusal);
+    }
+    let message = m.message;
+    let n = used(&message);
+    add_bytes(say(b""), part(&message, 0, n))
+}
+
+// The words for an identifier and a remote flag; a frame that is written has an even identifier.
+fn head(identifier: u16, remote: u8) -> Words {
+    let address = add_byte(say(b""), (identifier / 2 % 256) as u8);
+    let priority = add_item(address, &PRIORITIES, identifier / 512 + identifier % 2 * 8);
+    if remote == 0 {
+        return priority;
+    }
+    add_item(priority, &FLAGS, laws::wide16(remote))
+}
+
+// Where the data of a frame end in its layout.
+fn data_end(count: u8) -> usize {
+    past(4, count as usize)
+}
+
+// A frame, in words; past the count of its data there are zeros.
+fn framed(f: &[u8; 12]) -> Words {
+    let end = data_end(f[3]);
+    let w = add_bytes(head(laws::number16(f[0], f[1]), f[2]), part(f, 4, end));
+    if check::same(part(f, end, 12), part(&[0; 12], end, 12)) {
+        return w;
+    }
+    add(w, b" and more")
+}
+
+// The frame that a message is written as; zeros at its end may be left out.
+pub(crate) fn write(r: Reader, message: &[u8]) -> Words {
+    if message.len() > 20 {
+        return say(b" too long");
+    }
+    let mut whole = [0u8; 20];
+    laws::copy_in(&mut whole, 0, message);
+    let w = frame_of(r.a, &whole);
+    if w.refusal != 0 {
+        return refused(w.refusal);
+    }
+    let frame = w.frame;
+    framed(&frame)
 }

@@ -1,122 +1,97 @@
-// Runs frames, steps back and questions through a picture.
-use crate::tally::Tally;
-use crate::words::REFUSED;
-use laws::wide32;
+// What the picture makes of frames and steps back, and what it answers. Calls that change it answer a refusal's number, or 0.
+use crate::answers::Words;
+use crate::answers::answer;
+use crate::rows::NO_CALL;
+use crate::text::part;
+use crate::words::Reader;
+use frame::VMB1BL;
+use frame::VMB8IR;
 use places::Answer;
 use places::Outcome;
 use questions::AddressAsked;
 use questions::LocationAsked;
 
-// A VMB8IR stands at H'2A', a VMB1BL at H'31': 512 × priority + 2 × address, of low priority.
-const IR_LOW: u32 = 1620;
-
-const BL_LOW: u32 = 1634;
-
-// The number of a place that is not heard.
-const UNKNOWN: u32 = 256;
-
-pub(crate) fn outcome_number(o: Outcome) -> u32 {
+fn refusal(o: Outcome) -> u8 {
     match o {
         Outcome::Done => 0,
-        Outcome::Refused(n) => wide32(n),
+        Outcome::Refused(n) => n,
     }
 }
 
-pub(crate) fn wide_value(v: u16) -> u32 {
-    v as u32
+pub(crate) fn fresh(picture: &mut [u8]) -> u8 {
+    refusal(picture::fresh(picture))
 }
 
-// A question that fills a buffer answers 0, or the refusal's number.
-pub(crate) fn fill_number(a: Answer) -> u32 {
-    match a {
-        Answer::Value(v) => wide_value(v),
-        Answer::NotHeard => UNKNOWN,
-        Answer::Refused(n) => wide32(n),
+// A way back of the depth that is named.
+pub(crate) fn fresh_depth(r: Reader, picture: &mut [u8]) -> u8 {
+    refusal(picture::fresh_with(picture, r.a))
+}
+
+pub(crate) fn hear(picture: &mut [u8], identifier: u32, remote: u32, data: &[u8]) -> u8 {
+    refusal(picture::hear(picture, identifier, remote, data))
+}
+
+pub(crate) fn back(picture: &mut [u8]) -> u8 {
+    refusal(picture::step_back(picture))
+}
+
+// The first of two refusals.
+fn first(a: u8, b: u8) -> u8 {
+    if a == 0 { b } else { a }
+}
+
+// The type frame of a module, and how many bytes it has: none for a type of which no module enters.
+fn type_frame(kind: u32) -> [u8; 8] {
+    match kind {
+        VMB8IR => [7, 0xFF, 0x0A, 0x12, 0x34, 0x01, 0x0C, 0x05],
+        VMB1BL => [5, 0xFF, 0x03, 0x02, 0x08, 0x0F, 0, 0],
+        _ => [0; 8],
     }
 }
 
-fn answer_number(a: Answer) -> u32 {
-    match a {
-        Answer::Value(v) => wide_value(v),
-        Answer::NotHeard => UNKNOWN,
-        Answer::Refused(n) => REFUSED + wide32(n),
-    }
+fn enter(picture: &mut [u8], kind: u32, identifier: u32) -> u8 {
+    let f = type_frame(kind);
+    let end = past_count(f[0]);
+    hear(picture, identifier, 0, part(&f, 1, end))
 }
 
-pub(crate) fn fresh(t: Tally, of: &[u8], picture: &mut [u8], number: u32) -> Tally {
-    let got = outcome_number(picture::fresh(picture));
-    t.compare(of, b"", got, number)
+fn past_count(n: u8) -> usize {
+    n as usize + 1
 }
 
-// A fresh picture that names its depth: taken where the number is 0.
-pub(crate) fn fresh_with(
-    t: Tally,
-    of: &[u8],
-    picture: &mut [u8],
-    depth: u32,
-    number: u32,
-) -> Tally {
-    let got = outcome_number(picture::fresh_with(picture, depth));
-    t.compare(of, b"", got, number)
-}
-
-// A frame: accepted where the number is 0.
-pub(crate) fn heard(
-    t: Tally,
-    of: &[u8],
-    picture: &mut [u8],
-    identifier: u32,
-    data: &[u8],
-    number: u32,
-) -> Tally {
-    let got = outcome_number(picture::hear(picture, identifier, 0, data));
-    t.compare(of, data, got, number)
-}
-
-// A fresh picture with the VMB8IR and the VMB1BL listed.
-pub(crate) fn modules(t: Tally, picture: &mut [u8]) -> Tally {
-    let of = b"01 FF enters";
-    picture::fresh(picture);
-    let t = heard(t, of, picture, IR_LOW, b"\xFF\x0A\x12\x34\x01\x0C\x05", 0);
-    heard(t, of, picture, BL_LOW, b"\xFF\x03\x02\x08\x0F", 0)
-}
-
-pub(crate) fn back(t: Tally, of: &[u8], picture: &mut [u8], number: u32) -> Tally {
-    let got = outcome_number(picture::step_back(picture));
-    t.compare(of, b"", got, number)
+// A fresh picture, in which two modules enter.
+pub(crate) fn fresh_with(r: Reader, picture: &mut [u8]) -> u8 {
+    fresh(picture);
+    let one = enter(picture, r.a, r.b);
+    first(one, enter(picture, r.c, r.d))
 }
 
 // The questions whose answer is a number, by their letters.
-fn answer(picture: &[u8], letter: u8, at: u32, number: u32) -> Answer {
+fn number(picture: &[u8], letter: u8, at: u32, number: u32) -> Answer {
     match letter {
         b'K' => questions::kept(picture),
         b'T' => questions::type_of(picture, AddressAsked(at)),
         b'Y' => questions::build_year(picture, AddressAsked(at)),
-        b'E' => questions::build_week(picture, AddressAsked(at)),
+        b'V' => questions::build_week(picture, AddressAsked(at)),
         b'C' => questions::cell(picture, AddressAsked(at), LocationAsked(number)),
         b'L' => questions::led(picture, AddressAsked(at), number),
         b'I' => questions::blind(picture, AddressAsked(at), number),
-        _ => Answer::Refused(0),
+        _ => Answer::Refused(NO_CALL),
     }
 }
 
-pub(crate) fn asked(
-    t: Tally,
-    of: &[u8],
-    picture: &[u8],
-    letter: u8,
-    at: u32,
-    number: u32,
-    is: u32,
-) -> Tally {
-    let got = answer_number(answer(picture, letter, at, number));
-    t.compare(of, b"", got, is)
+pub(crate) fn asked(letter: u8, r: Reader, picture: &[u8]) -> Words {
+    answer(letter, number(picture, letter, r.a, r.b))
 }
 
-// A picture of too few bytes is 13, before anything else.
-pub(crate) fn short(t: Tally, of: &[u8], picture: &mut [u8]) -> Tally {
-    let t = fresh(t, of, picture, 13);
-    let t = heard(t, of, picture, 1621, b"", 13);
-    let t = back(t, of, picture, 13);
-    asked(t, of, picture, b'C', 256, 256, REFUSED + 13)
+// One refusal that both are.
+pub(crate) fn both(a: u8, b: u8) -> u8 {
+    if a == b { a } else { NO_CALL }
+}
+
+// What calls on a picture answer where it is too short; what else they are handed is wrong too.
+pub(crate) fn short(picture: &mut [u8]) -> u8 {
+    let changed = both(fresh(picture), hear(picture, 1621, 0, b""));
+    let back = both(changed, back(picture));
+    both(back, crate::rows::refusal(number(picture, b'C', 256, 256)))
 }

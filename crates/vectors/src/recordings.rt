@@ -1,169 +1,110 @@
-// Runs records through their reader and their writer, and recordings through the replay.
-use crate::tally::Tally;
-use crate::tally::long;
+// What is made of records and recordings, and pictures that are too short for them.
+use crate::answers::Words;
+use crate::answers::add;
+use crate::answers::add_decimal;
+use crate::answers::refused;
+use crate::answers::say;
+use crate::pictures;
+use crate::pictures::both;
+use crate::rows::NO_CALL;
+use crate::rows::room_of;
 use crate::text::part;
-use crate::words::REFUSED;
+use crate::text::past;
 use crate::words::ROOM;
-use crate::words::TOO_LONG;
-use laws::wide32;
+use crate::words::Reader;
 use recording::Entry;
 use recording::Put;
 use replay::Part;
 use replay::Replayed;
 use replay::Stream;
 
-// What is answered where no refusal is: a record, or the end.
-const RECORD: u32 = 100;
+// Where a record is put of which no place is named, and the bytes of the buffer.
+const PLACE: u32 = 2;
 
-const END: u32 = 101;
+const RECORD_ROOM: u32 = 32;
 
-// What is answered where a buffer is too short.
-const SHORT: u32 = REFUSED + 13;
-
-fn as_number(n: usize) -> u32 {
-    if n < 65536 { n as u32 } else { u32::MAX }
+// What a writer answers: the refusal's number, or 0 and where the bytes end.
+struct Filled {
+    refusal: u8,
+    end: usize,
 }
 
-// What stands first in a recording: what it is, a fault's offset, and a record's numbers with the places of its data and of its end.
-struct Seen {
-    what: u32,
-    offset: u32,
-    gap: u64,
-    identifier: u32,
-    remote: u32,
-    start: usize,
-    next: usize,
-}
-
-fn no_record(what: u32, offset: u32) -> Seen {
-    Seen {
-        what,
-        offset,
-        gap: 0,
-        identifier: 0,
-        remote: 0,
-        start: 0,
-        next: 0,
+fn filled_by(p: Put, at: usize) -> Filled {
+    match p {
+        Put::Wrote(n) => Filled {
+            refusal: 0,
+            end: past(at, n),
+        },
+        Put::Refused(refusal) => Filled { refusal, end: at },
     }
 }
 
-fn first_in(s: &[u8]) -> Seen {
+// Puts a record at `r.a` into the first `r.b` bytes.
+fn put_into(room: &mut [u8], r: Reader, data: &[u8]) -> Put {
+    let n = r.b as usize;
+    if n > room.len() {
+        return Put::Refused(NO_CALL);
+    }
+    recording::put_record(&mut room[0..n], r.a as usize, r.gap, r.c, r.d, data)
+}
+
+// Whether bytes are one record, with these numbers and this many bytes of data.
+fn is_record(s: &[u8], r: Reader) -> bool {
     match recording::read_record(s, 0) {
         Entry::Record {
             gap,
             identifier,
             remote,
             start,
-            len: _,
+            len,
             next,
-        } => Seen {
-            what: RECORD,
-            offset: 0,
-            gap,
-            identifier,
-            remote,
-            start,
-            next,
-        },
-        Entry::End => no_record(END, 0),
-        Entry::Broken { refusal, offset } => no_record(wide32(refusal), as_number(offset)),
+        } => {
+            gap == r.gap
+                && identifier == r.c
+                && remote == r.d
+                && len == r.count
+                && past(start, len) == s.len()
+                && next == s.len()
+        }
+        _ => false,
     }
 }
 
-// Whether a recording is one record of no data, with these numbers.
-fn is_record(s: &[u8], gap: u32, identifier: u32, remote: u32) -> bool {
-    let r = first_in(s);
-    r.what == RECORD
-        && r.gap == long(gap)
-        && r.identifier == identifier
-        && r.remote == remote
-        && r.start == s.len()
-        && r.next == s.len()
-}
-
-// The first fault of a recording, and its offset.
-pub(crate) fn broken(t: Tally, of: &[u8], s: &[u8], refusal: u32, offset: u32) -> Tally {
-    let r = first_in(s);
-    let t = t.compare(of, s, r.what, refusal);
-    t.compare(of, s, r.offset, offset)
-}
-
-pub(crate) fn ends(t: Tally, of: &[u8], s: &[u8]) -> Tally {
-    t.compare(of, s, first_in(s).what, END)
-}
-
-// Whether a record of no data is written as these bytes, at the second byte of eight.
-fn is_written(s: &[u8], gap: u32, identifier: u32, remote: u32) -> bool {
-    let mut room = [0u8; 8];
-    let mut expected = [0u8; 8];
-    laws::copy_in(&mut expected, 1, s);
-    recording::put_record(&mut room, 1, long(gap), identifier, remote, b"");
-    check::same(&room, &expected)
-}
-
-// A record of no data is read, and written as the same bytes.
-pub(crate) fn record(
-    t: Tally,
-    of: &[u8],
-    s: &[u8],
-    gap: u32,
-    identifier: u32,
-    remote: u32,
-) -> Tally {
-    let t = t.holds(of, s, is_record(s, gap, identifier, remote));
-    t.holds(of, s, is_written(s, gap, identifier, remote))
-}
-
-fn put_number(p: Put) -> u32 {
-    match p {
-        Put::Wrote(n) => as_number(n),
-        Put::Refused(n) => REFUSED + wide32(n),
-    }
-}
-
-// Where a record is put, and its numbers.
-pub struct Head {
-    pub at: u32,
-    pub gap: u32,
-    pub identifier: u32,
-    pub remote: u32,
-}
-
-// Puts a record into the first n bytes.
-fn put_got(room: &mut [u8], n: usize, h: Head, data: &[u8]) -> u32 {
-    if n > room.len() {
-        return TOO_LONG;
-    }
-    put_number(recording::put_record(
-        &mut room[0..n],
-        h.at as usize,
-        long(h.gap),
-        h.identifier,
-        h.remote,
-        data,
-    ))
-}
-
-// Puts a record into dots, as many as there are bytes in what they are afterwards.
-pub(crate) fn put(
-    t: Tally,
-    of: &[u8],
-    h: Head,
-    data: &[u8],
-    answer: u32,
-    expected: &[u8],
-) -> Tally {
-    let n = expected.len();
+// A record, put into dots and read again.
+pub(crate) fn put(r: Reader, data: &[u8]) -> Words {
+    let at = r.a as usize;
     let mut room = [b'.'; ROOM];
-    let got = put_got(&mut room, n, h, data);
-    let t = t.compare(of, expected, got, answer);
-    t.holds(of, expected, check::same(part(&room, 0, n), expected))
+    let f = filled_by(put_into(&mut room, r, data), at);
+    let w = room_of(b'p', f.refusal, &room, at, f.end);
+    if f.refusal != 0 {
+        return w;
+    }
+    if is_record(part(&room, at, f.end), r) {
+        return w;
+    }
+    add(w, b" and reads as another")
 }
 
-fn part_number(p: Part) -> u32 {
-    match p {
-        Part::Heard(_) => 0,
-        Part::Refused(n) => REFUSED + wide32(n),
+// A record of which no place is named.
+pub(crate) fn record(mut r: Reader, data: &[u8]) -> Words {
+    r.c = r.a;
+    r.d = r.b;
+    r.a = PLACE;
+    r.b = RECORD_ROOM;
+    put(r, data)
+}
+
+fn broken(offset: usize, refusal: u8) -> Words {
+    let w = add_decimal(say(b" broken at byte"), offset as u64);
+    add_decimal(add(w, b" refusal"), refusal as u64)
+}
+
+// What stands first in a recording.
+pub(crate) fn recording(s: &[u8]) -> Words {
+    match recording::read_record(s, 0) {
+        Entry::End => say(b" at its end"),
+        Entry::Broken { refusal, offset } => broken(offset, refusal),
+        _ => say(b" a record"),
     }
 }
 
@@ -174,67 +115,76 @@ fn hear(picture: &mut [u8], s: &[u8], n: usize) -> Part {
     replay::hear_part(picture, &mut window, replay::begin(), n)
 }
 
+fn part_refusal(p: Part) -> u8 {
+    match p {
+        Part::Heard(_) => 0,
+        Part::Refused(n) => n,
+    }
+}
+
 // Puts a listing into the first n bytes.
-fn listing_got(picture: &[u8], room: &mut [u8], n: usize, stream: Stream) -> u32 {
+fn list_into(picture: &[u8], room: &mut [u8], n: usize, stream: Stream) -> Filled {
     if n > room.len() {
-        return TOO_LONG;
+        return filled_by(Put::Refused(NO_CALL), 0);
     }
-    put_number(replay::put_listing(picture, &mut room[0..n], stream))
+    filled_by(replay::put_listing(picture, &mut room[0..n], stream), 0)
 }
 
-// The listing, put into as many dots as it has bytes.
-fn listed(t: Tally, of: &[u8], picture: &[u8], stream: Stream, expected: &[u8]) -> Tally {
-    let n = expected.len();
+// What a listing is in n bytes.
+fn list_in(picture: &[u8], n: usize, stream: Stream) -> Words {
     let mut room = [b'.'; ROOM];
-    let got = listing_got(picture, &mut room, n, stream);
-    let t = t.compare(of, expected, got, as_number(n));
-    t.holds(of, expected, check::same(part(&room, 0, n), expected))
+    let f = list_into(picture, &mut room, n, stream);
+    room_of(b'P', f.refusal, &room, 0, f.end)
 }
 
-// Put into one dot fewer, it leaves the dots.
-fn not_listed(t: Tally, of: &[u8], picture: &[u8], stream: Stream, expected: &[u8]) -> Tally {
-    let n = std::num::wrapping_sub_usize(expected.len(), 1);
+// The listing, in as many bytes as it has. In one less it is refused with 13, and nothing is put.
+fn just_listed(picture: &[u8], stream: Stream) -> Words {
     let mut room = [b'.'; ROOM];
-    let got = listing_got(picture, &mut room, n, stream);
-    let t = t.compare(of, expected, got, SHORT);
-    t.holds(of, expected, check::same(&room, &[b'.'; ROOM]))
+    let n = list_into(picture, &mut room, ROOM, stream).end;
+    let less = list_in(picture, std::num::wrapping_sub_usize(n, 1), stream);
+    let bytes = less.bytes;
+    if check::same(part(&bytes, 0, less.count), b" refused 13") {
+        return list_in(picture, n, stream);
+    }
+    add(less, b" in a byte less")
 }
 
-// Hears a recording in a fresh picture.
-fn hear_anew(picture: &mut [u8], s: &[u8]) -> Part {
-    picture::fresh(picture);
-    hear(picture, s, s.len())
-}
-
-fn listings(t: Tally, of: &[u8], picture: &[u8], stream: Stream, expected: &[u8]) -> Tally {
-    let t = listed(t, of, picture, stream, expected);
-    not_listed(t, of, picture, stream, expected)
-}
-
-// A recording's listing. A part longer than its window is not heard.
-pub(crate) fn listing(t: Tally, of: &[u8], picture: &mut [u8], s: &[u8], expected: &[u8]) -> Tally {
-    let t = t.compare(of, s, part_number(hear(picture, s, ROOM + 1)), SHORT);
-    match hear_anew(picture, s) {
-        Part::Heard(stream) => listings(t, of, picture, stream, expected),
-        Part::Refused(_) => t.holds(of, s, false),
+// A recording's listing, heard in a fresh picture. A part longer than its window is not heard: 13.
+pub(crate) fn listing(picture: &mut [u8], s: &[u8]) -> Words {
+    pictures::fresh(picture);
+    if part_refusal(hear(picture, s, ROOM + 1)) != laws::TOO_SHORT {
+        return say(b" heard past its window");
+    }
+    match hear(picture, s, s.len()) {
+        Part::Heard(stream) => just_listed(picture, stream),
+        Part::Refused(n) => refused(n),
     }
 }
 
-fn all_got(picture: &mut [u8]) -> u32 {
+fn all_refusal(picture: &mut [u8]) -> u8 {
     match replay::hear_all(picture, b"") {
         Replayed::Heard(_) => 0,
-        Replayed::Refused(n) => REFUSED + wide32(n),
+        Replayed::Refused(n) => n,
     }
 }
 
-fn text_got(picture: &[u8]) -> u32 {
+fn listing_refusal(picture: &[u8]) -> u8 {
     let mut room = [b'.'; ROOM];
-    listing_got(picture, &mut room, ROOM, replay::begin())
+    list_into(picture, &mut room, ROOM, replay::begin()).refusal
 }
 
-// A picture of too few bytes is 13 for a recording, for a part of one, and for a listing.
-pub(crate) fn short(t: Tally, of: &[u8], picture: &mut [u8]) -> Tally {
-    let t = t.compare(of, b"", all_got(picture), SHORT);
-    let t = t.compare(of, b"", part_number(hear(picture, b"", 0)), SHORT);
-    t.compare(of, b"", text_got(picture), SHORT)
+// The one refusal of calls on a picture that is too short, of a recording, of a part of one, and of a listing.
+fn refusal(picture: &mut [u8]) -> u8 {
+    let calls = both(pictures::short(picture), all_refusal(picture));
+    let part = both(calls, part_refusal(hear(picture, b"", 0)));
+    both(part, listing_refusal(picture))
+}
+
+// The first `r.a` bytes of a picture, as a picture.
+pub(crate) fn short(r: Reader, picture: &mut [u8]) -> u8 {
+    let n = r.a as usize;
+    if n > picture.len() {
+        return NO_CALL;
+    }
+    refusal(&mut picture[0..n])
 }

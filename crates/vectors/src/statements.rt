@@ -1,259 +1,248 @@
-// The statements: which there are, what words each has, and what is done for each.
-use crate::fills;
+// The statements: which there are, and what is done for each. A line is a question, and after "is" the answer in words; where it says
+// none, the answer is "done".
+use crate::answers::Words;
+use crate::answers::outcome;
+use crate::answers::say;
 use crate::frames;
-use crate::messages;
 use crate::pictures;
 use crate::recordings;
-use crate::recordings::Head;
-use crate::tally::Tally;
-use crate::text::byte_at;
-use crate::text::find;
+use crate::rows;
+use crate::text::after;
 use crate::text::part;
 use crate::text::past;
-use crate::words::ROOM;
+use crate::text::until;
+use crate::text::word;
 use crate::words::Reader;
-use crate::words::first_count;
 use crate::words::take_all;
+use crate::words::unread;
+use laws::byte_at;
+use libc::STDOUT_FILENO;
 
-// The numbers of a statement, in their order.
-struct Numbers {
-    a: u32,
-    b: u32,
-    c: u32,
-    d: u32,
-    e: u32,
+pub struct Tally {
+    pub agreed: u64,
+    pub differed: u64,
 }
 
-// What a line is to be done with: the counts so far, and where the label above it stands in the text.
-struct Progress {
-    tally: Tally,
-    label: usize,
-    label_end: usize,
+// The bytes of a pattern's line, and where its letter stands in it.
+const LINE: usize = 32;
+
+const LETTER: usize = 30;
+
+// More patterns than there are.
+const MOST: usize = 64;
+
+// What is done for a question, by its letter.
+fn apart(letter: u8, r: Reader, data: &[u8]) -> Words {
+    match letter {
+        b'r' => frames::read(r, data),
+        b'E' => frames::each(r, data),
+        b'd' => frames::documented(r, data),
+        b'm' => frames::layout(r, data),
+        b'w' => frames::write(r, data),
+        b'o' => recordings::record(r, data),
+        b'p' => recordings::put(r, data),
+        b'e' => recordings::recording(data),
+        _ => say(b""),
+    }
 }
 
-// A line of the table: its verb, in twelve bytes, the statement's letter, and the shape (words.rt), in eight bytes.
-const LINE: usize = 23;
-
-const LETTER: usize = 12;
-
-const SHAPE: usize = 14;
-
-const SHAPE_END: usize = 22;
-
-// More lines than the table has.
-const LINES: usize = 64;
-
-fn is_verb(table: &[u8], at: usize, verb: &[u8]) -> bool {
-    let end = past(at, verb.len());
-    byte_at(table, end) == b' ' && check::same(part(table, at, end), verb)
+// The questions on the picture, and those above.
+fn asked(letter: u8, r: Reader, data: &[u8], picture: &[u8]) -> Words {
+    match letter {
+        b'K' | b'T' | b'Y' | b'V' | b'C' | b'L' | b'I' => pictures::asked(letter, r, picture),
+        b'n' | b'c' => rows::name(letter, r, picture),
+        b'R' => rows::row(r, picture),
+        b'A' => rows::listed(r, picture),
+        _ => apart(letter, r, data),
+    }
 }
 
-// The place in the table of the line that has the verb; past its end where none has.
-fn find_verb(table: &[u8], verb: &[u8]) -> usize {
+// What changes the picture: a refusal's number, or 0.
+fn changed(letter: u8, r: Reader, data: &[u8], picture: &mut [u8]) -> u8 {
+    match letter {
+        b'F' => pictures::fresh(picture),
+        b'X' => pictures::fresh_depth(r, picture),
+        b'W' => pictures::fresh_with(r, picture),
+        b'H' => pictures::hear(picture, r.a, r.b, data),
+        b'B' => pictures::back(picture),
+        _ => recordings::short(r, picture),
+    }
+}
+
+// All statements.
+fn perform(letter: u8, r: Reader, data: &[u8], picture: &mut [u8]) -> Words {
+    match letter {
+        b'F' | b'X' | b'W' | b'H' | b'B' | b'S' => outcome(changed(letter, r, data, picture)),
+        b'P' => recordings::listing(picture, data),
+        _ => asked(letter, r, data, picture),
+    }
+}
+
+// A question as the pattern at `at` reads it. Most patterns are told from it by their first letter.
+fn read_by(patterns: &[u8], at: usize, q: &[u8]) -> Reader {
+    if byte_at(patterns, at) != byte_at(q, 0) {
+        return unread(0);
+    }
+    let end = past(at, LETTER);
+    take_all(q, part(patterns, at, end), byte_at(patterns, end))
+}
+
+// A question as the first pattern reads it that reads all of it; where none does, its letter is 0.
+fn read(patterns: &[u8], q: &[u8]) -> Reader {
     let mut at = 0;
-    let mut lines: usize = 0;
-    while lines < LINES && !is_verb(table, at, verb) {
+    let mut tried: usize = 0;
+    while tried < MOST {
+        let r = read_by(patterns, at, q);
+        if r.at == after(0, q) {
+            return r;
+        }
         at = past(at, LINE);
-        lines += 1;
+        tried += 1;
+    }
+    unread(0)
+}
+
+// The answer; none where a question cannot be read.
+fn answer(patterns: &[u8], q: &[u8], picture: &mut [u8]) -> Words {
+    let r = read(patterns, q);
+    let bytes = r.bytes;
+    perform(r.letter, r, part(&bytes, 0, r.count), picture)
+}
+
+// Where a word stands in a line; past the end where it has none.
+fn find_word(line: &[u8], sought: &[u8]) -> usize {
+    let mut at = 0;
+    let mut words: usize = 0;
+    while words < line.len() && at < line.len() {
+        let w = word(line, at);
+        if check::same(w, sought) {
+            return at;
+        }
+        at = after(at, w);
+        words += 1;
     }
     at
 }
 
-fn shape_at(table: &[u8], at: usize) -> &[u8] {
-    part(table, past(at, SHAPE), past(at, SHAPE_END))
+// Whether there is an answer, and the line says the same.
+fn agrees(line: &[u8], is: usize, got: &[u8]) -> bool {
+    if got.len() == 0 {
+        return false;
+    }
+    if is < line.len() {
+        return check::same(part(line, past(is, 2), line.len()), got);
+    }
+    check::same(got, b" done")
 }
 
-fn short(t: Tally, of: &[u8], picture: &mut [u8], size: u32) -> Tally {
-    let size = size as usize;
-    if size <= picture.len() {
-        let t = pictures::short(t, of, &mut picture[0..size]);
-        return recordings::short(t, of, &mut picture[0..size]);
+fn tell_difference(number: u64, line: &[u8], got: &[u8]) {
+    io::write_all(STDOUT_FILENO, b"line ");
+    io::print_decimal(STDOUT_FILENO, number);
+    io::write_all(STDOUT_FILENO, b": ");
+    io::write_all(STDOUT_FILENO, line);
+    io::write_all(STDOUT_FILENO, b"\n  it is");
+    io::write_all(STDOUT_FILENO, got);
+    if got.len() == 0 {
+        io::write_all(STDOUT_FILENO, b" no statement");
     }
-    t.holds(of, b"", false)
+    io::write_all(STDOUT_FILENO, b"\n");
 }
 
-// The statements that need no picture, by their letters.
-fn perform_apart(t: Tally, of: &[u8], letter: u8, n: Numbers, left: &[u8], right: &[u8]) -> Tally {
-    match letter {
-        b'k' => frames::kept(t, of, n.a, n.b, left),
-        b'r' => frames::refused(t, of, n.a, n.b, left, n.c),
-        b'f' => frames::flagged(t, of, n.a, n.b, n.c, left, n.d),
-        b'l' => frames::low(t, of, n.a, left),
-        b'h' => frames::high(t, of, n.a, left),
-        b'm' => messages::reads(t, of, n.a, n.b, left, right),
-        b'w' => messages::written(t, of, n.a, n.b, n.c, left, right, 0),
-        b'u' => messages::written(t, of, n.a, 0, 0, left, right, n.b),
-        b'o' => recordings::record(t, of, left, n.a, n.b, n.c),
-        b'b' => recordings::broken(t, of, left, n.a, n.b),
-        b'e' => recordings::ends(t, of, left),
-        b'p' => recordings::put(
-            t,
-            of,
-            Head {
-                at: n.a,
-                gap: n.b,
-                identifier: n.c,
-                remote: n.d,
-            },
-            left,
-            n.e,
-            right,
-        ),
-        _ => t.holds(of, left, false),
+// A statement: whether it agrees, and where it does not, that is told.
+fn holds(patterns: &[u8], line: &[u8], number: u64, picture: &mut [u8]) -> bool {
+    let is = find_word(line, b"is");
+    let w = answer(
+        patterns,
+        part(line, 0, std::num::wrapping_sub_usize(is, 1)),
+        picture,
+    );
+    let bytes = w.bytes;
+    let got = part(&bytes, 0, w.count);
+    if agrees(line, is, got) {
+        return true;
     }
+    tell_difference(number, line, got);
+    false
 }
 
-// The statements on the picture, and all others.
-fn perform(
-    t: Tally,
-    of: &[u8],
-    letter: u8,
-    picture: &mut [u8],
-    n: Numbers,
-    left: &[u8],
-    right: &[u8],
-) -> Tally {
-    match letter {
-        b'F' => pictures::fresh(t, of, picture, 0),
-        b'D' => pictures::fresh_with(t, of, picture, n.a, n.b),
-        b'M' => pictures::modules(t, picture),
-        b'H' => pictures::heard(t, of, picture, n.a, left, 0),
-        b'N' => pictures::heard(t, of, picture, n.a, left, n.b),
-        b'B' => pictures::back(t, of, picture, n.a),
-        b'K' => pictures::asked(t, of, picture, letter, 0, 0, n.a),
-        b'T' | b'Y' | b'E' => pictures::asked(t, of, picture, letter, n.a, 0, n.b),
-        b'C' | b'L' | b'I' => pictures::asked(t, of, picture, letter, n.a, n.b, n.c),
-        b'S' => short(t, of, picture, n.a),
-        b'n' | b'c' => fills::name(t, of, picture, letter, n.a, n.b, n.c, left),
-        b'R' => fills::row(t, of, picture, n.a, n.b, n.c, n.d, n.e),
-        b'A' => fills::listed(t, of, picture, n.a, n.b, n.c, n.d),
-        b'P' => recordings::listing(t, of, picture, left, right),
-        _ => perform_apart(t, of, letter, n, left, right),
+// One line: a comment, nothing, or a statement. The counts never wrap: no text has so many lines.
+fn count(mut t: Tally, patterns: &[u8], line: &[u8], number: u64, picture: &mut [u8]) -> Tally {
+    if line.len() == 0 {
+        return t;
     }
-}
-
-// Does a statement whose words are read.
-fn perform_read(
-    t: Tally,
-    of: &[u8],
-    letter: u8,
-    picture: &mut [u8],
-    numbers: &[u32; 5],
-    bytes: &[u8; ROOM],
-    r: Reader,
-) -> Tally {
-    let n = Numbers {
-        a: numbers[0],
-        b: numbers[1],
-        c: numbers[2],
-        d: numbers[3],
-        e: numbers[4],
-    };
-    let split = first_count(r);
-    let left = part(bytes, 0, split);
-    let right = part(bytes, split, r.count);
-    perform(t, of, letter, picture, n, left, right)
-}
-
-// A statement that is read to its end is done; any other is told.
-fn statement(
-    t: Tally,
-    of: &[u8],
-    text: &[u8],
-    at: usize,
-    end: usize,
-    table: &[u8],
-    picture: &mut [u8],
-) -> Tally {
-    let mut numbers = [0u32; 5];
-    let mut bytes = [0u8; ROOM];
-    let verb_end = find(text, at, b' ');
-    let found = find_verb(table, part(text, at, verb_end));
-    let letter = byte_at(table, past(found, LETTER));
-    let shape = shape_at(table, found);
-    let r = take_all(text, verb_end, shape, &mut numbers, &mut bytes);
-    if letter == 0 || r.at != end {
-        return t.unread(of, part(text, at, end));
+    if byte_at(line, 0) == b'#' {
+        return t;
     }
-    perform_read(t, of, letter, picture, &numbers, &bytes, r)
-}
-
-// One line: a comment, the label of the lines below it, or a statement.
-fn line(text: &[u8], table: &[u8], at: usize, picture: &mut [u8], r: Progress) -> Progress {
-    let end = find(text, at, b'\n');
-    let t = r.tally.next_line();
-    if end == at || byte_at(text, at) == b'#' {
-        return Progress {
-            tally: t,
-            label: r.label,
-            label_end: r.label_end,
-        };
+    if holds(patterns, line, number, picture) {
+        t.agreed = std::num::wrapping_add_u64(t.agreed, 1);
+    } else {
+        t.differed = std::num::wrapping_add_u64(t.differed, 1);
     }
-    if check::same(part(text, at, past(at, 3)), b"of ") {
-        return Progress {
-            tally: t,
-            label: past(at, 3),
-            label_end: end,
-        };
-    }
-    let of = part(text, r.label, r.label_end);
-    Progress {
-        tally: statement(t, of, text, at, end, table, picture),
-        label: r.label,
-        label_end: r.label_end,
-    }
+    t
 }
 
 // All lines. Every line has a byte, the one that ends it, so that no text has more lines than bytes.
-fn run_lines(text: &[u8], table: &[u8], picture: &mut [u8]) -> Tally {
-    let mut r = Progress {
-        tally: Tally::new(),
-        label: 0,
-        label_end: 0,
+fn run_lines(text: &[u8], patterns: &[u8], picture: &mut [u8]) -> Tally {
+    let mut t = Tally {
+        agreed: 0,
+        differed: 0,
     };
     let mut at = 0;
-    let mut lines = text.len();
-    while lines > 0 && at < text.len() {
-        r = line(text, table, at, picture, r);
-        at = past(find(text, at, b'\n'), 1);
-        lines -= 1;
+    let mut number: usize = 0;
+    while number < text.len() && at < text.len() {
+        let line = until(text, at, b'\n');
+        number += 1;
+        t = count(t, patterns, line, number as u64, picture);
+        at = after(at, line);
     }
-    r.tally
+    t
 }
 
-// The lines of a text, by the table of the statements.
+// The lines of a text, by the patterns (words.rt) of what is asked, each with its letter.
 pub(crate) fn run(text: &[u8], picture: &mut [u8]) -> Tally {
-    let table = b"kept        k hdb.....
-refused     r hddb....
-flag        f hdddb...
-low         l hb......
-high        h hb......
-reads       m hdb=b...
-written     w hddb=b..
-unwritten   u hd=b....
-fresh       F ........
-depth       D dd......
-modules     M ........
-heard       H db......
-unheard     N ddb.....
-back        B d.......
-keeps       K d.......
-type        T ha......
-year        Y ha......
-week        E ha......
-cell        C hda.....
-led         L hda.....
-blind       I hda.....
-name        n hddb....
-characters  c hddb....
-row         R hddda...
-listed      A ddhd....
-short       S d.......
-record      o dddb....
-broken      b ddb.....
-ends        e b.......
-put         p ddddab=b
-listing     P b=b.....
+    let patterns = b"read T F B                    r
+read type H F B               r
+each byte after T F B         E
+documented T P B              d
+layout T F B                  m
+write T B                     w
+write type H B                w
+fresh                         F
+fresh depth D                 X
+fresh with T A and T A        W
+hear F B                      H
+back                          B
+kept count                    K
+type H                        T
+build year H                  Y
+build week H                  V
+cell H H                      C
+led H D                       L
+blind H D                     I
+name H D                      n
+name H D into D               n
+characters H D                c
+characters H D into D         c
+row H into D entry H          R
+listed H into D               A
+picture of D bytes            S
+record gap G F B              o
+put at D of D gap G F B       p
+recording B                   e
+listing B                     P
 ";
-    run_lines(text, table, picture)
+    run_lines(text, patterns, picture)
+}
+
+// The counts. A text that fills its room may be longer than that, and what is beyond is not read: that is told.
+pub(crate) fn tell(t: Tally, whole: bool) {
+    if !whole {
+        io::write_all(STDOUT_FILENO, b"the text is too long\n");
+    }
+    if t.differed != 0 {
+        io::print_decimal(STDOUT_FILENO, t.differed);
+        io::write_all(STDOUT_FILENO, b" statements differ, ");
+    }
+    io::print_decimal(STDOUT_FILENO, t.agreed);
+    io::write_all(STDOUT_FILENO, b" statements agree\n");
 }

@@ -1,12 +1,11 @@
-// Lines and words of a text, and the numbers that words are. Every read is guarded: past the end of the text there is nothing.
-ghost use mathlib.Core.Path.{_≡_};
+// Words of a line, and the numbers that words are. Every read is guarded: past the end of a text there is nothing.
+use laws::wide32;
 
-// What is no number: every number of a line fits in 32 bits.
-pub const NO_NUMBER: u64 = 4294967296;
+// What is no number: every number of a line is below it.
+pub const NO_NUMBER: u64 = 1099511627776;
 
-pub(crate) fn byte_at(s: &[u8], i: usize) -> u8 {
-    if i < s.len() { s[i] } else { 0 }
-}
+// More items than a list has.
+const ITEMS: u64 = 32;
 
 // The part from `from` to before `to`; nothing where the text has no such part.
 pub(crate) fn part(s: &[u8], from: usize, to: usize) -> &[u8] {
@@ -19,45 +18,39 @@ pub(crate) fn part(s: &[u8], from: usize, to: usize) -> &[u8] {
 }
 
 // The place `n` bytes on. It wraps where no text reaches.
-pub(crate) fn past(i: usize, n: usize) -> usize {
-    std::num::wrapping_add_usize(i, n)
+pub(crate) fn past(at: usize, n: usize) -> usize {
+    std::num::wrapping_add_usize(at, n)
 }
 
-fn goes_on(b: u8, stop: u8) -> bool {
-    b != stop && b != b'\n'
-}
-
-// The first place from `at` on that has the byte `stop`, or else the end of the line.
+// The first place from `at` on that has the byte `stop`, or else the end.
 pub(crate) fn find(s: &[u8], at: usize, stop: u8) -> usize {
     let mut i = at;
-    while i < s.len() && goes_on(s[i], stop) {
+    while i < s.len() && s[i] != stop {
         i += 1;
     }
     i
 }
 
-// The word that follows the space at `at`; nothing where no space stands there.
-pub(crate) fn word(s: &[u8], at: usize) -> &[u8] {
-    let from = past(at, 1);
-    let to = if byte_at(s, at) == b' ' {
-        find(s, from, b' ')
-    } else {
-        from
-    };
-    part(s, from, to)
+// What begins at `at` and ends before the byte `stop`.
+pub(crate) fn until(s: &[u8], at: usize, stop: u8) -> &[u8] {
+    part(s, at, find(s, at, stop))
 }
 
-pub(crate) fn wide(x: u8) -> u64
-    ensures { λ r. ⌜ r ≡ x ⌝ }
-{
-    x as u64
+// The word that begins at `at`.
+pub(crate) fn word(s: &[u8], at: usize) -> &[u8] {
+    until(s, at, b' ')
+}
+
+// Where the next word begins: a space is passed over.
+pub(crate) fn after(at: usize, w: &[u8]) -> usize {
+    past(past(at, w.len()), 1)
 }
 
 // The digit that a byte stands for, 16 where it stands for none.
 fn digit(b: u8) -> u64 {
     match b {
-        b'0'..=b'9' => wide(b) - 48,
-        b'A'..=b'F' => wide(b) - 55,
+        b'0'..=b'9' => (wide32(b) - 48) as u64,
+        b'A'..=b'F' => (wide32(b) - 55) as u64,
         _ => 16,
     }
 }
@@ -71,26 +64,53 @@ fn with_digit(n: u64, base: u64, d: u64) -> u64 {
         return NO_NUMBER;
     }
     if base == 16 {
-        n * 16 + d
+        n * 16 + d % 16
     } else {
         n * 10 + d % 10
     }
 }
 
-fn digits(s: &[u8], base: u64) -> u64 {
+fn digits(w: &[u8], base: u64) -> u64 {
     let mut n = 0;
     let mut i = 0;
-    while i < s.len() {
-        n = with_digit(n, base, digit(s[i]));
+    while i < w.len() {
+        n = with_digit(n, base, digit(w[i]));
         i += 1;
     }
     n
 }
 
 // The number that a word is, NO_NUMBER or more where it is none.
-pub(crate) fn number(word: &[u8], base: u64) -> u64 {
-    if word.len() == 0 {
+pub(crate) fn number(w: &[u8], base: u64) -> u64 {
+    if w.len() == 0 {
         return NO_NUMBER;
     }
-    digits(word, base)
+    digits(w, base)
+}
+
+// Which item of a list a word is, NO_NUMBER where it is none. The items stand one after the other, each with / after it; the first is
+// number 0.
+pub(crate) fn named(list: &[u8], w: &[u8]) -> u64 {
+    let mut at = 0;
+    let mut n = 0;
+    while n < ITEMS && at < list.len() {
+        let item = until(list, at, b'/');
+        if check::same(item, w) {
+            return n;
+        }
+        at = after(at, item);
+        n += 1;
+    }
+    NO_NUMBER
+}
+
+// The item of a number, nothing where the list has none.
+pub(crate) fn item(list: &[u8], number: u16) -> &[u8] {
+    let mut at = 0;
+    let mut n = 0;
+    while n < number {
+        at = after(at, until(list, at, b'/'));
+        n += 1;
+    }
+    until(list, at, b'/')
 }

@@ -1,217 +1,223 @@
-// The words of a statement, taken as its shape says. A shape has a letter for each:
-// h a hexadecimal number, d a decimal number, a an answer, b a list of bytes, = that sign, a dot nothing.
+// A question's words, taken as a pattern says. A word of a pattern stands for itself, or is one letter:
+// T a type, P a priority (as the identifier of address H'2A'), A an address (as its identifier of lowest priority), F a frame without its
+// data, H a hexadecimal number, D a decimal number, G a gap, B the bytes up to the end.
 use crate::text::NO_NUMBER;
-use crate::text::byte_at;
+use crate::text::after;
 use crate::text::find;
+use crate::text::named;
 use crate::text::number;
 use crate::text::part;
 use crate::text::past;
 use crate::text::word;
+use laws::byte_at;
 
-// The most bytes of a statement's lists.
+// The types by their numbers.
+pub const TYPES: [u8; 46] = *b"untyped/01/02/VMB1BL/04/05/06/07/08/09/VMB8IR/";
+
+// The priorities, and the remote flags, by their numbers.
+pub const PRIORITIES: [u8; 22] = *b"high/second/third/low/";
+
+pub const FLAGS: [u8; 18] = *b"data/remote/flag2/";
+
+const LOWEST: u64 = 3;
+
+// The most bytes that a question has.
 pub const ROOM: usize = 128;
 
-// A place that no text has: what follows a word that cannot be read.
+// A place that no text has: where a question goes on after a word that cannot be read.
 const NOWHERE: usize = usize::MAX;
 
-// An answer: unknown is 256, and a refusal n is REFUSED + n, apart from every value.
-pub const UNKNOWN: u32 = 256;
-
-pub const REFUSED: u32 = 1000;
-
-// What is got where a vector asks for more than there is room for.
-pub const TOO_LONG: u32 = 2000;
-
-// A number, and the place after it.
-struct Taken {
-    number: u32,
-    next: usize,
-}
-
-// How far a line is read, how many numbers it has so far and how many bytes in its lists, and after which of them the second list begins.
+// The letter of the pattern; where the next word begins; how many numbers the question has so far, and these, in their order; its gap; its bytes, and how many.
 pub struct Reader {
+    pub letter: u8,
     pub at: usize,
-    pub numbers: usize,
+    pub found: u32,
+    pub a: u32,
+    pub b: u32,
+    pub c: u32,
+    pub d: u32,
+    pub gap: u64,
     pub count: usize,
-    pub split: usize,
+    pub bytes: [u8; ROOM],
 }
 
-fn take_number(text: &[u8], at: usize, base: u64) -> Taken {
-    let w = word(text, at);
-    let n = number(w, base);
+// 512 × priority + 2 × address.
+fn identifier(address: u64, priority: u64) -> u64 {
+    if address > 255 {
+        return NO_NUMBER;
+    }
+    if priority > LOWEST {
+        return NO_NUMBER;
+    }
+    512 * priority + 2 * address
+}
+
+fn with_number(mut r: Reader, n: u64, next: usize) -> Reader {
+    if n > 4294967295 {
+        r.at = NOWHERE;
+        return r;
+    }
+    r.at = next;
+    let i = r.found;
+    r.found = std::num::wrapping_add_u32(i, 1);
+    match i {
+        0 => r.a = n as u32,
+        1 => r.b = n as u32,
+        2 => r.c = n as u32,
+        _ => r.d = n as u32,
+    }
+    r
+}
+
+fn with_gap(mut r: Reader, n: u64, next: usize) -> Reader {
+    r.gap = n;
+    r.at = next;
     if n >= NO_NUMBER {
-        return Taken {
-            number: 0,
-            next: NOWHERE,
-        };
+        r.at = NOWHERE;
     }
-    Taken {
-        number: n as u32,
-        next: past(past(at, 1), w.len()),
-    }
+    r
 }
 
-fn take_refusal(text: &[u8], at: usize) -> Taken {
-    let n = take_number(text, at, 10);
-    if n.number > 255 {
-        return Taken {
-            number: 0,
-            next: NOWHERE,
-        };
+// A remote flag, which is 0 where none is named.
+fn take_flag(q: &[u8], r: Reader) -> Reader {
+    let w = word(q, r.at);
+    let n = named(&FLAGS, w);
+    if n == NO_NUMBER {
+        return with_number(r, 0, r.at);
     }
-    Taken {
-        number: REFUSED + n.number,
-        next: n.next,
-    }
+    with_number(r, n, after(r.at, w))
 }
 
-// An answer is a number, or "unknown", or "refused" with its number.
-fn take_answer(text: &[u8], at: usize) -> Taken {
-    let w = word(text, at);
-    let next = past(past(at, 1), w.len());
-    if check::same(w, b"unknown") {
-        return Taken {
-            number: UNKNOWN,
-            next,
-        };
+// The identifier that two words are: its number, or address and priority.
+fn identified(w: &[u8], v: &[u8]) -> u64 {
+    if check::same(w, b"identifier") {
+        return number(v, 10);
     }
-    if check::same(w, b"refused") {
-        return take_refusal(text, next);
-    }
-    take_number(text, at, 10)
+    identifier(number(w, 16), named(&PRIORITIES, v))
 }
 
-// The list with these bytes more; with none, or with more than there is room for, it cannot be read.
-fn with_bytes(r: Reader, out: &mut [u8; ROOM], bytes: &[u8], next: usize) -> Reader {
-    let count = r.count;
-    let all = past(count, bytes.len());
-    laws::copy_in(out, count, bytes);
-    let fits = count < all && all <= ROOM;
-    Reader {
-        at: if fits { next } else { NOWHERE },
-        numbers: r.numbers,
-        count: if fits { all } else { count },
-        split: r.split,
+// An identifier, and the remote flag.
+fn take_frame(q: &[u8], r: Reader) -> Reader {
+    let w = word(q, r.at);
+    let next = after(r.at, w);
+    let v = word(q, next);
+    take_flag(q, with_number(r, identified(w, v), after(next, v)))
+}
+
+// Bytes more; with more than there is room for, the question cannot be read.
+fn with_bytes(mut r: Reader, bytes: &[u8], next: usize) -> Reader {
+    let mut all = r.bytes;
+    laws::copy_in(&mut all, r.count, bytes);
+    r.bytes = all;
+    r.count = past(r.count, bytes.len());
+    r.at = next;
+    if r.count > ROOM {
+        r.at = NOWHERE;
     }
+    r
 }
 
-// Text between two quotes, of which the first stands after the space at `at`.
-fn take_quoted(text: &[u8], r: Reader, out: &mut [u8; ROOM]) -> Reader {
-    let from = past(r.at, 2);
-    let to = find(text, from, b'"');
-    let next = if byte_at(text, to) == b'"' {
-        past(to, 1)
-    } else {
-        NOWHERE
-    };
-    with_bytes(r, out, part(text, from, to), next)
+// Text between two quotes: a word ends with the second.
+fn take_quoted(q: &[u8], r: Reader) -> Reader {
+    let from = past(r.at, 1);
+    let to = find(q, from, b'"');
+    let w = word(q, to);
+    if w.len() == 1 {
+        return with_bytes(r, part(q, from, to), after(to, w));
+    }
+    with_bytes(r, b"", NOWHERE)
 }
 
-// A byte of two digits.
-fn take_byte(text: &[u8], r: Reader, out: &mut [u8; ROOM]) -> Reader {
-    let w = word(text, r.at);
+fn take_byte(q: &[u8], r: Reader) -> Reader {
+    let w = word(q, r.at);
     let n = number(w, 16);
-    let next = if w.len() == 2 { past(r.at, 3) } else { NOWHERE };
     if n < 256 {
-        let byte = [n as u8];
-        return with_bytes(r, out, &byte, next);
+        return with_bytes(r, &[n as u8], after(r.at, w));
     }
-    with_bytes(r, out, b"", next)
+    with_bytes(r, b"", NOWHERE)
 }
 
-fn take_item(text: &[u8], r: Reader, out: &mut [u8; ROOM]) -> Reader {
-    if byte_at(text, past(r.at, 1)) == b'"' {
-        take_quoted(text, r, out)
+fn take_item(q: &[u8], r: Reader) -> Reader {
+    if byte_at(q, r.at) == b'"' {
+        take_quoted(q, r)
     } else {
-        take_byte(text, r, out)
+        take_byte(q, r)
     }
 }
 
-fn more(text: &[u8], at: usize) -> bool {
-    byte_at(text, at) == b' ' && byte_at(text, past(at, 1)) != b'='
-}
-
-// A list, up to the sign = or the end of the line. Every item has a byte, so that no list that fits has more than ROOM items.
-fn take_list(text: &[u8], first: Reader, out: &mut [u8; ROOM]) -> Reader {
+// No question that can be read has more items than there is room for bytes.
+fn take_list(q: &[u8], first: Reader) -> Reader {
     let mut r = first;
-    let mut items = 0;
-    while items < ROOM && more(text, r.at) {
-        r = take_item(text, r, out);
+    let mut items: usize = 0;
+    while items < ROOM && r.at < q.len() {
+        r = take_item(q, r);
         items += 1;
     }
     r
 }
 
-// The sign = that stands between two lists.
-fn take_sign(text: &[u8], r: Reader) -> Reader {
-    let next = if check::same(word(text, r.at), b"=") {
-        past(r.at, 2)
-    } else {
-        NOWHERE
-    };
-    Reader {
-        at: next,
-        numbers: r.numbers,
-        count: r.count,
-        split: r.count,
-    }
-}
-
-fn with_number(r: Reader, numbers: &mut [u32; 5], n: Taken) -> Reader {
-    let i = r.numbers;
-    if i < 5 {
-        numbers[i] = n.number;
-    }
-    Reader {
-        at: n.next,
-        numbers: past(i, 1),
-        count: r.count,
-        split: r.split,
-    }
-}
-
-// The words that one letter of a shape stands for.
-fn take(
-    text: &[u8],
-    r: Reader,
-    letter: u8,
-    numbers: &mut [u32; 5],
-    bytes: &mut [u8; ROOM],
-) -> Reader {
-    let at = r.at;
-    match letter {
-        b'h' => with_number(r, numbers, take_number(text, at, 16)),
-        b'd' => with_number(r, numbers, take_number(text, at, 10)),
-        b'a' => with_number(r, numbers, take_answer(text, at)),
-        b'b' => take_list(text, r, bytes),
-        b'=' => take_sign(text, r),
-        _ => r,
-    }
-}
-
-// The words of a statement from `at` on. Where there is no second list, it begins past the end of the first.
-pub(crate) fn take_all(
-    text: &[u8],
-    at: usize,
-    shape: &[u8],
-    numbers: &mut [u32; 5],
-    bytes: &mut [u8; ROOM],
-) -> Reader {
-    let mut r = Reader {
-        at,
-        numbers: 0,
-        count: 0,
-        split: ROOM,
-    };
-    let mut i = 0;
-    while i < shape.len() {
-        r = take(text, r, shape[i], numbers, bytes);
-        i += 1;
+fn take_itself(mut r: Reader, w: &[u8], p: &[u8]) -> Reader {
+    r.at = after(r.at, w);
+    if !check::same(w, p) {
+        r.at = NOWHERE;
     }
     r
 }
 
-// How many bytes the first list has.
-pub(crate) fn first_count(r: Reader) -> usize {
-    if r.split < r.count { r.split } else { r.count }
+// The number that a word is, by the letter for it.
+fn value(letter: u8, w: &[u8]) -> u64 {
+    match letter {
+        b'T' => named(&TYPES, w),
+        b'P' => identifier(0x2A, named(&PRIORITIES, w)),
+        b'A' => identifier(number(w, 16), LOWEST),
+        b'H' => number(w, 16),
+        _ => number(w, 10),
+    }
+}
+
+// What one word of a pattern stands for. After a word that cannot be read none is.
+fn take(q: &[u8], p: &[u8], r: Reader) -> Reader {
+    if r.at == NOWHERE {
+        return r;
+    }
+    let letter = byte_at(p, 0);
+    let w = word(q, r.at);
+    match letter {
+        b'T' | b'P' | b'A' | b'H' | b'D' => with_number(r, value(letter, w), after(r.at, w)),
+        b'G' => with_gap(r, value(letter, w), after(r.at, w)),
+        b'F' => take_frame(q, r),
+        b'B' => take_list(q, r),
+        _ => take_itself(r, w, p),
+    }
+}
+
+// A question of which nothing is read, by a pattern that has this letter.
+pub(crate) fn unread(letter: u8) -> Reader {
+    Reader {
+        letter,
+        at: 0,
+        found: 0,
+        a: 0,
+        b: 0,
+        c: 0,
+        d: 0,
+        gap: 0,
+        count: 0,
+        bytes: [0; ROOM],
+    }
+}
+
+// The words of a question by a pattern, which has at most ten, and spaces after them. They are read where the next would begin just past
+// the question's end.
+pub(crate) fn take_all(q: &[u8], pattern: &[u8], letter: u8) -> Reader {
+    let mut r = unread(letter);
+    let mut at = 0;
+    let mut words: usize = 0;
+    while words < 10 && byte_at(pattern, at) > b' ' {
+        let p = word(pattern, at);
+        r = take(q, p, r);
+        at = after(at, p);
+        words += 1;
+    }
+    r
 }

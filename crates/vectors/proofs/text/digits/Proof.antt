@@ -6,10 +6,10 @@ use Rattle.vectors.proofs.text.digits.Statement.{statement}
 use Rattle.vectors.proofs.text.digits.Tie as tie
 
 abbrev Inv-loop : tie.InvT-loop
-Inv-loop s base n₀ i₀ n i = i ≤ length s
+Inv-loop w base n₀ i₀ n i = i ≤ length w
 
 abbrev μ-loop : tie.MeasureT-loop
-μ-loop s base n₀ i₀ n i = length s - i
+μ-loop w base n₀ i₀ n i = length w - i
 
 pub digits-spec : {M : Type 1} → statement M
 digits-spec =

@@ -1,0 +1,145 @@
+// Answers in words. Each begins with a space. An answer that outgrows its room is none, and agrees with nothing.
+use crate::text::item;
+use crate::text::past;
+use crate::words::TYPES;
+use laws::byte_at;
+use places::Answer;
+
+// The most bytes of an answer in words.
+pub const WORDS: usize = 512;
+
+pub struct Words {
+    pub bytes: [u8; WORDS],
+    pub count: usize,
+}
+
+pub(crate) fn add(w: Words, s: &[u8]) -> Words {
+    let mut bytes = w.bytes;
+    laws::copy_in(&mut bytes, w.count, s);
+    Words {
+        bytes,
+        count: past(w.count, s.len()),
+    }
+}
+
+pub(crate) fn say(s: &[u8]) -> Words {
+    add(
+        Words {
+            bytes: [0; WORDS],
+            count: 0,
+        },
+        s,
+    )
+}
+
+pub(crate) fn add_decimal(w: Words, n: u64) -> Words {
+    let mut digits = [0u8; 20];
+    let k = io::decimal(n, &mut digits);
+    add(add(w, b" "), &digits[..k])
+}
+
+// A byte of two digits.
+pub(crate) fn add_byte(w: Words, b: u8) -> Words {
+    let digits = b"0123456789ABCDEF";
+    let high = byte_at(digits, (b / 16) as usize);
+    let low = byte_at(digits, (b % 16) as usize);
+    add(w, &[b' ', high, low])
+}
+
+pub(crate) fn add_bytes(before: Words, bytes: &[u8]) -> Words {
+    let mut w = before;
+    let mut i = 0;
+    while i < bytes.len() {
+        w = add_byte(w, bytes[i]);
+        i += 1;
+    }
+    w
+}
+
+// What stands in quotes: what can be printed, but a quote.
+fn is_text(b: u8) -> bool {
+    match b {
+        32..=33 | 35..=126 => true,
+        _ => false,
+    }
+}
+
+// A byte of a text, with the quotes that begin and end there.
+fn add_letter(w: Words, before: u8, b: u8, next: u8) -> Words {
+    if !is_text(b) {
+        return add_byte(w, b);
+    }
+    let begun = if is_text(before) { w } else { add(w, b" \"") };
+    let added = add(begun, &[b]);
+    if is_text(next) {
+        added
+    } else {
+        add(added, b"\"")
+    }
+}
+
+pub(crate) fn say_text(text: &[u8]) -> Words {
+    let mut w = say(b"");
+    let mut before = 0;
+    let mut i = 0;
+    while i < text.len() {
+        let b = text[i];
+        i += 1;
+        w = add_letter(w, before, b, byte_at(text, i));
+        before = b;
+    }
+    w
+}
+
+// A refusal. 14 is given only for a name of which not all is heard.
+pub(crate) fn refused(n: u8) -> Words {
+    if n == laws::NOT_WHOLE {
+        return say(b" not whole");
+    }
+    add_decimal(say(b" refused"), n as u64)
+}
+
+// What comes of a call that answers 0, or a refusal's number.
+pub(crate) fn outcome(n: u8) -> Words {
+    if n == 0 {
+        return say(b" done");
+    }
+    refused(n)
+}
+
+// The item of a list, after a space.
+pub(crate) fn add_item(w: Words, list: &[u8], v: u16) -> Words {
+    add(add(w, b" "), item(list, v))
+}
+
+fn say_item(list: &[u8], v: u16) -> Words {
+    add_item(say(b""), list, v)
+}
+
+// What a cell holds.
+fn cell(v: u16) -> Words {
+    if v < 256 {
+        return add_byte(say(b""), v as u8);
+    }
+    add_decimal(say(b" beyond"), v as u64)
+}
+
+// A value, by the letter of its question.
+pub(crate) fn value(letter: u8, v: u16) -> Words {
+    match letter {
+        b'T' => say_item(&TYPES, v),
+        b'L' => say_item(b"off/on/slow/fast/very fast/", v),
+        b'I' => say_item(b"off/up/down/", v),
+        b'A' => say_item(b"no/yes/", v),
+        b'C' | b'R' => cell(v),
+        _ => add_decimal(say(b""), v as u64),
+    }
+}
+
+pub(crate) fn answer(letter: u8, a: Answer) -> Words {
+    match a {
+        Answer::Value(v) => value(letter, v),
+        Answer::NotHeard => say(b" not heard"),
+        Answer::Refused(n) => refused(n),
+    }
+}

@@ -1,0 +1,146 @@
+// What is put into a lent buffer. What a call does not fill stays as it was.
+use crate::answers::Words;
+use crate::answers::add;
+use crate::answers::add_bytes;
+use crate::answers::refused;
+use crate::answers::say;
+use crate::answers::say_text;
+use crate::answers::value;
+use crate::text::part;
+use crate::words::ROOM;
+use crate::words::Reader;
+use places::Answer;
+use places::NOT_HEARD;
+use questions::AddressAsked;
+
+// The bytes of a name, and those of the buffer where none are named.
+const NAME: usize = 16;
+
+const NAME_ROOM: u32 = 18;
+
+// The entries that a row may have, and what each is before; as a byte, for the listed addresses.
+const ENTRIES: usize = 300;
+
+const UNTOUCHED: u16 = 777;
+
+const NO_MARK: u8 = 9;
+
+// Where a question asks for more than there is room for, and no call is made: no refusal has this number.
+pub const NO_CALL: u8 = 255;
+
+// The refusal's number of a call that fills a buffer; 0 where it filled it.
+pub(crate) fn refusal(a: Answer) -> u8 {
+    match a {
+        Answer::Refused(n) => n,
+        _ => 0,
+    }
+}
+
+// Whether of a buffer of dots only `filled`, at `from`, is changed.
+fn only(room: &[u8; ROOM], from: usize, filled: &[u8]) -> bool {
+    let mut dots = [b'.'; ROOM];
+    laws::copy_in(&mut dots, from, filled);
+    check::same(room, &dots)
+}
+
+// What was filled, by the letter of the statement: text, or bytes.
+fn shown(letter: u8, refusal: u8, filled: &[u8]) -> Words {
+    if refusal != 0 {
+        return refused(refusal);
+    }
+    match letter {
+        b'n' | b'P' => say_text(filled),
+        _ => add_bytes(say(b""), filled),
+    }
+}
+
+// What a call made of a buffer of dots: it filled what stands from `from` to before `to`, or refused to, and then `to` is `from`.
+pub(crate) fn room_of(letter: u8, refusal: u8, room: &[u8; ROOM], from: usize, to: usize) -> Words {
+    let filled = part(room, from, to);
+    let w = shown(letter, refusal, filled);
+    if only(room, from, filled) {
+        return w;
+    }
+    add(w, b" and more")
+}
+
+// The whole name, or which of its characters are heard, into the first n bytes.
+fn fill_name(picture: &[u8], letter: u8, r: Reader, room: &mut [u8], n: usize) -> Answer {
+    if n > room.len() {
+        return Answer::Refused(NO_CALL);
+    }
+    if letter == b'n' {
+        return questions::name(picture, AddressAsked(r.a), r.b, &mut room[0..n]);
+    }
+    questions::name_heard(picture, AddressAsked(r.a), r.b, &mut room[0..n])
+}
+
+pub(crate) fn name(letter: u8, r: Reader, picture: &[u8]) -> Words {
+    let n = if r.found == 2 { NAME_ROOM } else { r.c };
+    let mut room = [b'.'; ROOM];
+    let refusal = refusal(fill_name(picture, letter, r, &mut room, n as usize));
+    room_of(
+        letter,
+        refusal,
+        &room,
+        0,
+        if refusal == 0 { NAME } else { 0 },
+    )
+}
+
+// An entry of a row after the call.
+fn entry(letter: u8, refusal: u8, v: u16) -> Words {
+    match v {
+        UNTOUCHED => untouched(refusal),
+        NOT_HEARD => say(b" not heard"),
+        _ => value(letter, v),
+    }
+}
+
+// A refusal leaves the row as it was.
+fn untouched(refusal: u8) -> Words {
+    if refusal == 0 {
+        return say(b" untouched");
+    }
+    refused(refusal)
+}
+
+// The memory row, into the first n entries.
+fn fill_row(picture: &[u8], at: u32, row: &mut [u16], n: usize) -> u8 {
+    if n > row.len() {
+        return NO_CALL;
+    }
+    refusal(questions::memory_row(picture, AddressAsked(at), &mut row[0..n]))
+}
+
+fn entry_at(row: &[u16; ENTRIES], i: usize) -> u16 {
+    if i < ENTRIES { row[i] } else { u16::MAX }
+}
+
+pub(crate) fn row(r: Reader, picture: &[u8]) -> Words {
+    let mut row = [UNTOUCHED; ENTRIES];
+    let refusal = fill_row(picture, r.a, &mut row, r.b as usize);
+    entry(b'R', refusal, entry_at(&row, r.c as usize))
+}
+
+// The listed addresses, into the first n bytes.
+fn fill_listed(picture: &[u8], row: &mut [u8], n: usize) -> u8 {
+    if n > row.len() {
+        return NO_CALL;
+    }
+    refusal(questions::listed(picture, &mut row[0..n]))
+}
+
+fn mark(b: u8) -> u16 {
+    if b == NO_MARK {
+        UNTOUCHED
+    } else {
+        laws::wide16(b)
+    }
+}
+
+pub(crate) fn listed(r: Reader, picture: &[u8]) -> Words {
+    let mut row = [NO_MARK; ENTRIES];
+    let refusal = fill_listed(picture, &mut row, r.b as usize);
+    entry(b'A', refusal, mark(laws::byte_at(&row, r.a as usize)))
+}
