@@ -30,7 +30,7 @@ static uint8_t picture[VELBUS_PICTURE_SIZE];
 static const char *refusal_text(uint32_t number)
 {
     static const char *const texts[] = {
-        [VELBUS_BAD_IDENTIFIER] = "identifier above 2047, or SID0 is 1",
+        [VELBUS_BAD_IDENTIFIER] = "identifier above 2047",
         [VELBUS_BAD_FORM] = "frame badly formed",
         [VELBUS_BAD_PRIORITY] = "neither high nor low priority",
         [VELBUS_BAD_TYPE] = "module type not known here",
@@ -46,6 +46,7 @@ static const char *refusal_text(uint32_t number)
         [VELBUS_NAME_NOT_WHOLE] = "name not whole",
         [VELBUS_CUT_OFF] = "recording ends inside a record",
         [VELBUS_BAD_NUMBER] = "recording number too long, too large or not shortest",
+        [VELBUS_SID0] = "SID0 is set",
     };
     return number < sizeof texts / sizeof texts[0] && texts[number] ? texts[number] : "a number without words here";
 }
@@ -54,7 +55,9 @@ static const char *refusal_text(uint32_t number)
 static int refused(const char *what, uint32_t word)
 {
     uint32_t number = velbus_refusal(word);
-    if (number)
+    if (velbus_place(word))
+        fprintf(stderr, "%s: refused %u at byte %u, %s\n", what, number, velbus_place(word), refusal_text(number));
+    else if (number)
         fprintf(stderr, "%s: refused %u, %s\n", what, number, refusal_text(number));
     return number != 0;
 }

@@ -4,7 +4,7 @@
  *
  *     bits 0-15   the value
  *     bits 16-23  the refusal number, 0 where nothing is refused
- *     bits 24-31  0
+ *     bits 24-31  of a refusal 9, the number of the data byte; else 0
  *
  * A refused call has value 0 and leaves every buffer as it was. Nothing is required of the caller but that each pointer
  * is good for its length, and that the buffers of one call do not overlap. There is no global state: a picture belongs
@@ -25,7 +25,7 @@ extern "C" {
 #define VELBUS_VERSION "2.0.0"    /* velbus.pc takes it from here */
 
 /* ---- refusal numbers ---- */
-#define VELBUS_BAD_IDENTIFIER 1   /* identifier above 2047, or SID0 is 1 */
+#define VELBUS_BAD_IDENTIFIER 1   /* identifier above 2047 */
 #define VELBUS_BAD_FORM 2         /* remote flag not 0 or 1, over 8 data bytes, remote with data, or not remote without */
 #define VELBUS_BAD_PRIORITY 3     /* priority 1 or 2 */
 #define VELBUS_BAD_TYPE 4         /* a module type that is not known here */
@@ -33,7 +33,7 @@ extern "C" {
 #define VELBUS_NOT_LISTED 6       /* the command is not in the type's list; in velbus_write also: the bytes are no message */
 #define VELBUS_WRONG_LENGTH 7     /* the length is not the command's */
 #define VELBUS_WRONG_PRIORITY 8   /* the priority is not the command's */
-#define VELBUS_BAD_FIELD 9        /* a field is not allowed */
+#define VELBUS_BAD_FIELD 9        /* a field is not allowed: velbus_place has its byte */
 #define VELBUS_NO_ROOM 10         /* the address is not listed, and 16 modules are */
 #define VELBUS_NOTHING_KEPT 11    /* a step back with none kept */
 #define VELBUS_NO_SUCH_PLACE 12   /* the type has no such cell, name, LED or blind; or no way back is so deep */
@@ -41,6 +41,7 @@ extern "C" {
 #define VELBUS_NAME_NOT_WHOLE 14  /* a character of the name was not heard */
 #define VELBUS_CUT_OFF 15         /* the recording ends inside a record */
 #define VELBUS_BAD_NUMBER 16      /* a number of a recording is too long, too large or not shortest */
+#define VELBUS_SID0 17            /* SID0, the lowest bit of the identifier, is 1 */
 
 /* ---- values ---- */
 #define VELBUS_UNKNOWN 256        /* not heard: no byte has this value */
@@ -108,6 +109,10 @@ enum { VELBUS_NO_TIME = 0, VELBUS_DIP_SWITCH = 1, VELBUS_PERMANENTLY = 2, VELBUS
 /* ---- the parts of a result word ---- */
 static inline uint32_t velbus_value(uint32_t word) { return word & 0xFFFFu; }
 static inline uint32_t velbus_refusal(uint32_t word) { return word >> 16 & 0xFFu; }
+
+/* The data byte of a refusal 9, counted from 1 as the module documents do; 0 for every other word. It is the first, from the left, that no
+ * allowed choice of the later bytes can repair: of FE 01 90 2A, a VMB1BL's cell H'0190', that is 2, for no low byte makes H'01xx' a cell of it;
+ * of FE 00 90 2A it is 3. velbus_write gives the byte of the frame that the message would be, and 3 for a time that is not legal. */
 static inline uint32_t velbus_place(uint32_t word) { return word >> 24; }
 
 /* ---- frames ---- */

@@ -7,10 +7,13 @@ _Static_assert(sizeof(struct plain_module) == 1024, "a slot is found by a shift"
 
 enum {
     BAD_IDENTIFIER = 1, BAD_FORM, BAD_PRIORITY, BAD_TYPE, TYPE_NOT_KNOWN, NOT_LISTED, WRONG_LENGTH, WRONG_PRIORITY, BAD_FIELD,
-    NO_ROOM, NOTHING_KEPT, NO_SUCH_PLACE, TOO_SHORT,
+    NO_ROOM, NOTHING_KEPT, NO_SUCH_PLACE, TOO_SHORT, SID0_SET = 17,
 };
 
 static inline uint32_t refuse(unsigned number) { return (uint32_t)number << 16; }
+
+/* A field that is not allowed, with the number of its byte. */
+static inline uint32_t refuse_at(unsigned byte) { return refuse(BAD_FIELD) | (uint32_t)byte << 24; }
 
 /* ---- the tables ---- */
 
@@ -144,7 +147,7 @@ static uint32_t hear_type(struct plain_picture *p, unsigned address, unsigned pr
     if (priority != LOW)
         return refuse(WRONG_PRIORITY);
     if (kind == PLAIN_VMB1BL && data[2] > 3)
-        return refuse(BAD_FIELD);
+        return refuse_at(3);
     struct plain_module *m = &p->module[p->slot[address]];
     if (m->kind == kind) {
         keep(p, m->build);
@@ -185,7 +188,7 @@ static inline uint32_t tell_name(struct plain_picture *p, struct plain_module *m
 {
     unsigned name = name_of[m->kind][data[1]];
     if (name == 0)
-        return refuse(BAD_FIELD);
+        return refuse_at(2);
     return tell(p, &m->character[name - 1][from], data + 2, n);
 }
 
@@ -224,9 +227,15 @@ static inline uint32_t tell_blind(struct plain_picture *p, struct plain_module *
 
 static inline int at_most_one_bit(uint8_t b) { return (b & (b - 1)) == 0; }
 
-static inline int blind_status_allowed(const uint8_t *d)
+/* The number of the byte at fault, 0 where there is none. */
+static inline unsigned blind_status_fault(const uint8_t *d)
 {
-    return d[1] == BLIND_CHANNEL && d[2] <= 3 && d[3] <= 2 && at_most_one_bit(d[4]);
+    return d[1] != BLIND_CHANNEL ? 2 : d[2] > 3 ? 3 : d[3] > 2 ? 4 : at_most_one_bit(d[4]) ? 0 : 5;
+}
+
+static inline unsigned buttons_fault(const uint8_t *d)
+{
+    return d[1] & NO_BUTTON_BITS ? 2 : d[2] & NO_BUTTON_BITS ? 3 : 4;
 }
 
 static inline int end_of_name_allowed(const struct plain_module *m, const uint8_t *d)
@@ -236,6 +245,8 @@ static inline int end_of_name_allowed(const struct plain_module *m, const uint8_
 
 static inline int no_location(const uint8_t *d, const struct rule *rule) { return d[1] != 0 || d[2] > rule->last; }
 
+static inline uint32_t refuse_location(const uint8_t *d) { return refuse_at(d[1] != 0 ? 2 : 3); }
+
 /* A frame of the right form: its fields, and what it does. */
 static inline uint32_t act_on(struct plain_picture *p, struct plain_module *m, const struct rule *rule, const uint8_t *restrict d)
 {
@@ -243,37 +254,39 @@ static inline uint32_t act_on(struct plain_picture *p, struct plain_module *m, c
     case FREE:
         return step_over_nothing(p);
     case BUTTONS:
-        return (d[1] | d[2] | d[3]) & NO_BUTTON_BITS ? refuse(BAD_FIELD) : step_over_nothing(p);
+        return (d[1] | d[2] | d[3]) & NO_BUTTON_BITS ? refuse_at(buttons_fault(d)) : step_over_nothing(p);
     case CELL_TOLD:
-        return no_location(d, rule) ? refuse(BAD_FIELD) : tell(p, &m->cell[d[2]], d + 3, 1);
+        return no_location(d, rule) ? refuse_location(d) : tell(p, &m->cell[d[2]], d + 3, 1);
     case CELL_SET:
-        return no_location(d, rule) ? refuse(BAD_FIELD) : ask(p, &m->cell[d[2]], 1);
+        return no_location(d, rule) ? refuse_location(d) : ask(p, &m->cell[d[2]], 1);
     case BLOCK_TOLD:
-        return no_location(d, rule) ? refuse(BAD_FIELD) : tell(p, &m->cell[d[2]], d + 3, 4);
+        return no_location(d, rule) ? refuse_location(d) : tell(p, &m->cell[d[2]], d + 3, 4);
     case BLOCK_SET:
-        return no_location(d, rule) ? refuse(BAD_FIELD) : ask(p, &m->cell[d[2]], 4);
+        return no_location(d, rule) ? refuse_location(d) : ask(p, &m->cell[d[2]], 4);
     case LOCATION_ASKED:
-        return no_location(d, rule) ? refuse(BAD_FIELD) : step_over_nothing(p);
+        return no_location(d, rule) ? refuse_location(d) : step_over_nothing(p);
     case NAME_ONE:
         return tell_name(p, m, d, 0, 6);
     case NAME_TWO:
         return tell_name(p, m, d, 6, 6);
     case NAME_THREE:
-        return end_of_name_allowed(m, d) ? tell_name(p, m, d, 12, 4) : refuse(BAD_FIELD);
+        return end_of_name_allowed(m, d) || name_of[m->kind][d[1]] == 0 ? tell_name(p, m, d, 12, 4) : refuse_at(6);
     case NAME_ASKED:
-        return name_of[m->kind][d[1]] == 0 && !names_together(m->kind, d[1]) ? refuse(BAD_FIELD) : step_over_nothing(p);
+        return name_of[m->kind][d[1]] == 0 && !names_together(m->kind, d[1]) ? refuse_at(2) : step_over_nothing(p);
     case STATUS_ASKED:
-        return d[1] != BLIND_CHANNEL ? refuse(BAD_FIELD) : step_over_nothing(p);
+        return d[1] != BLIND_CHANNEL ? refuse_at(2) : step_over_nothing(p);
     case INPUT_STATUS:
         return tell_leds(p, m, d[2], d[3], d[4]);
     case LEDS_ALL:
         return tell_leds(p, m, d[1], d[2], d[3]);
     case LEDS:
         return tell_some_leds(p, m, (uint8_t)(d[0] - 0xF5), d[1]);
-    case BLIND_STATUS:
-        return blind_status_allowed(d) ? tell_blind(p, m, d[3]) : refuse(BAD_FIELD);
+    case BLIND_STATUS: {
+        unsigned fault = blind_status_fault(d);
+        return fault ? refuse_at(fault) : tell_blind(p, m, d[3]);
+    }
     default: /* BLIND_MOVED */
-        return d[1] != BLIND_CHANNEL ? refuse(BAD_FIELD) : tell_blind(p, m, UINT8_MAX);
+        return d[1] != BLIND_CHANNEL ? refuse_at(2) : tell_blind(p, m, UINT8_MAX);
     }
 }
 
@@ -288,8 +301,10 @@ static uint32_t refuse_form(unsigned kind, const struct rule *rule, size_t count
 
 uint32_t plain_hear(struct plain_picture *p, uint32_t identifier, uint32_t remote, const uint8_t *restrict data, size_t count)
 {
-    if (identifier > 2047 || identifier & 1)
+    if (identifier > 2047)
         return refuse(BAD_IDENTIFIER);
+    if (identifier & 1)
+        return refuse(SID0_SET);
     if (remote > 1 || count > 8 || remote == (count != 0))
         return refuse(BAD_FORM);
     unsigned priority = identifier >> 9, address = identifier >> 1 & 0xFF;

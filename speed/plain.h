@@ -1,6 +1,6 @@
 /* The same library as include/velbus.h, as a good engineer would write it in C without proofs: what the proved one is measured against.
  *
- * The four calls that a gateway makes most. Each answers the result word of velbus.h: the value, or the refusal number times 65536. */
+ * The four calls that a gateway makes most. Each answers the result word of velbus.h: the value, or the refusal with its byte. */
 #ifndef PLAIN_H
 #define PLAIN_H
 

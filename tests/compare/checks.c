@@ -19,7 +19,7 @@ void make_buffers(void)
     out = make_buffer(1024);
 }
 
-uint32_t refused(unsigned number) { return (uint32_t)number << 16; }
+uint32_t refused(unsigned refusal) { return (uint32_t)refusal << 16; }
 
 static uint32_t answer(unsigned refusal, uint32_t value) { return refusal ? refused(refusal) : value; }
 

@@ -10,8 +10,8 @@ extern struct buffer data_in, out;   /* lent to the library: data of frames, and
 
 void make_buffers(void);
 
-/* the result word of a refusal */
-uint32_t refused(unsigned number);
+/* the result word of a refusal, a 9 with its byte */
+uint32_t refused(unsigned refusal);
 
 /* reads a frame into a message buffer of a length; what is read is written again too */
 void check_read(uint32_t type, const struct ref_frame *f, size_t length);

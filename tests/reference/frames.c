@@ -115,11 +115,27 @@ static int fields_allowed(unsigned type, const uint8_t *d)
     }
 }
 
-static int allowed(unsigned type, const uint8_t *data, size_t count)
+/* whether some bytes behind byte k make the fields allowed; whatever a byte is bound to, all zeros or all ones will do for it */
+static int can_be_mended(unsigned type, const uint8_t *data, size_t count, size_t k)
 {
-    uint8_t d[9] = {0};
-    memcpy(d + 1, data, count);
-    return fields_allowed(type, d);
+    for (unsigned later = 0x00; later <= 0xFF; later += 0xFF) {
+        uint8_t d[9] = {0};
+        memcpy(d + 1, data, count);
+        for (size_t i = k + 1; i <= count; i++)
+            d[i] = (uint8_t)later;
+        if (fields_allowed(type, d))
+            return 1;
+    }
+    return 0;
+}
+
+/* 9 with the first byte behind the command that no later bytes can mend; 0 where the fields are allowed */
+static unsigned field_refusal(unsigned type, const uint8_t *data, size_t count)
+{
+    for (size_t k = 2; k <= count; k++)
+        if (!can_be_mended(type, data, count, k))
+            return REF_AT(9, k);
+    return 0;
 }
 
 /* The refusals that concern a frame of a type: 6, 7, 8, 9. */
@@ -132,7 +148,7 @@ static unsigned judged(unsigned type, const struct ref_frame *f)
         return 7;
     if (priority_of(line) != f->identifier >> 9)
         return 8;
-    return allowed(type, f->data, f->count) ? 0 : 9;
+    return field_refusal(type, f->data, f->count);
 }
 
 static int is_type(uint32_t type) { return type == IR || type == BL; }
@@ -144,8 +160,10 @@ static unsigned refusal(uint32_t type, const struct ref_frame *f)
 {
     if (type != NONE && !is_type(type))
         return 4;
-    if (f->identifier > 2047 || f->identifier & 1)
+    if (f->identifier > 2047)
         return 1;
+    if (f->identifier % 2)
+        return 17;
     if (f->remote > 1 || f->count > 8 || (f->remote ? f->count != 0 : f->count == 0))
         return 2;
     unsigned priority = f->identifier >> 9;
@@ -282,10 +300,11 @@ unsigned ref_write(uint32_t type, const uint8_t m[20], uint8_t frame[12])
             return 5;
         if (!has(own, line))
             return 6;
+        unsigned n = field_refusal(own, out + 4, out[3]);
+        if (n)
+            return n;
         if (m[TIME] == COUNTED && (seconds_of(m) == 0 || seconds_of(m) > 16777214))
-            return 9;
-        if (!allowed(own, out + 4, out[3]))
-            return 9;
+            return REF_AT(9, 3);
     }
     lay_identifier(priority_of(line), m, out);
     memcpy(frame, out, sizeof out);

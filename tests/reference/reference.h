@@ -16,10 +16,13 @@ struct ref_frame {
 
 /* ---- reading and writing ---- */
 
-/* the refusal number, 0 for none; a message that is read is laid into message */
+/* a refusal with the number of a data byte, from 1 */
+#define REF_AT(number, byte) ((unsigned)(number) + 256 * (unsigned)(byte))
+
+/* the refusal, 0 for none and a 9 with its byte; a message that is read is laid into message */
 unsigned ref_read(uint32_t type, const struct ref_frame *frame, uint8_t message[20]);
 
-/* the refusal number; a frame that is written is laid into frame */
+/* the refusal, a 9 with its byte; a frame that is written is laid into frame */
 unsigned ref_write(uint32_t type, const uint8_t message[20], uint8_t frame[12]);
 
 /* the name that a channel byte of a type stands for, from 1; 0 where it stands for none */

@@ -9,14 +9,15 @@ use lib.ListN.{length, take}
 use lib.Dec.{eqb}
 use borrow.Author.Tests.{eqb-true, eqb-false, eq-eqb, ne-eqb}
 use Rattle.laws.specs.Limits.{AllBytes}
+use Rattle.laws.specs.Refusals.{badField, codeAt}
 use Rattle.laws.specs.Tests.{unlessRefused}
 use Rattle.laws.proofs.Testing.{_&_, AllOf, not-both, nonzero, among-each}
 use Rattle.frame.specs.Identifiers.{identifierOf}
 use Rattle.frame.specs.Types.{longType, shortType, rowFor, isListed}
 use Rattle.frame.specs.Bytes.{byte, dataOf}
 use Rattle.frame.specs.Messages.{permanent, timeOf, typeCommand, decode}
-use Rattle.frame.specs.Fields.{fault}
-use Rattle.frame.specs.Reading.{fieldRefusal, ownType, rowRefusal, commandRefusal, commandRead, reading}
+use Rattle.frame.specs.Fields.{fault, fieldRefusal}
+use Rattle.frame.specs.Reading.{ownType, rowRefusal, commandRefusal, commandRead, reading}
 use Rattle.frame.specs.declared.bytes.Data.{Data}
 use Rattle.frame.specs.declared.identifiers.Address.{Address}
 use Rattle.frame.specs.declared.messages.Time.the-variants.{DipSwitch, Permanently, Seconds}
@@ -137,7 +138,7 @@ module _ (kind : ℕ) (a : Address) (s : List ℕ) (ha : a .0 < 256) (small : Al
       ∙ ap (λ (k : ℕ). rowRefusal k p d m) e
       ∙ rw (r .listed, eq-eqb (length s) (rowFor kind c .0) (r .sized), eq-eqb p p refl)
 
-  made : reading kind (identifierOf p a) 0 s ≡ unlessRefused Refused (fieldRefusal (fault kind m)) (Read a (Tells m))
+  pub made : reading kind (identifierOf p a) 0 s ≡ unlessRefused Refused (fieldRefusal (fault kind m)) (Read a (Tells m))
   unfolding commandRead
   made =
       reads-made kind p a s (module-handed kind (listed-module kind c (r .listed))) (row-known kind c) (row-priority kind c) ha some short
@@ -148,7 +149,7 @@ module _ (kind : ℕ) (a : Address) (s : List ℕ) (ha : a .0 < 256) (small : Al
     says = m;
     documented = subst (λ (t : List ℕ). Documented t m) all-bytes (defined kind c d (r .listed) (r .own) (small 1, small 2, small 3, small 4));
     read = λ f. made ∙ rw (eq-eqb (fault kind m) 0 f);
-    refused = λ f. made ∙ rw (ne-eqb (fault kind m) 0 f);
+    refused = λ f. made ∙ rw (ne-eqb (fault kind m) 0 f, ne-eqb (codeAt badField (fault kind m)) 0 (λ z. omega arith));
   }
 
 pub every-frame : EveryFrame

@@ -1,11 +1,12 @@
 -- The writer's refusal number of 0 taken apart into the tests that held, and put together again from them.
 -- Assumes nothing.
 use Prim.Native.Nat.{ℕ}
+use native.Mathlib.Omega.{arith}
 use mathlib.Core.Path.{_≡_, refl}
 use mathlib.Core.Bool.{Bool, true, false, not, _||_, cond}
 use lib.Dec.{eqb, lit<}
 use borrow.Author.Tests.{eqb-true}
-use Rattle.laws.specs.Refusals.{badType, typeNotKnown, notListed, badField}
+use Rattle.laws.specs.Refusals.{badType, typeNotKnown, notListed, badField, codeAt}
 use Rattle.laws.proofs.Testing.{held}
 use Rattle.frame.specs.Types.{noType, rowFor, isListed}
 use Rattle.frame.specs.Messages.{typeCommand}
@@ -28,7 +29,7 @@ write-held own d m e =
     let g₄ = held (typeFits d) badType _ (lit< tt) e in
     let g₅ = held (not (eqb own noType)) typeNotKnown _ (lit< tt) (g₄ .1) in
     let g₆ = held (isListed own (d .1)) notListed _ (lit< tt) (g₅ .1) in
-    let g₉ = held (eqb (fault own m) 0) badField _ (lit< tt) (g₆ .1) in
+    let g₉ = held (eqb (fault own m) 0) (codeAt badField (fault own m)) _ (omega arith) (g₆ .1) in
     record { fits = g₄ .0; some-type = g₅ .0; listed = g₆ .0; allowed = g₉ .0 }
 
 write-holds : (own : ℕ) (d : Data) (m : Command) → Lawful own d m → writeRefusal own d m ≡ 0

@@ -95,7 +95,7 @@ command-again kind i s a m small f short h =
       given =
           rw (← e .0, ← e .1)
           (ap (λ (t : List ℕ). writtenAs kind (addressOf i) x (dataOf t)) b ∙ written-again kind (addressOf i) x d (f .handed) (listed-lawful kind (priorityOf i) d x j));
-      same-identifier = ap (λ (p : ℕ). identifierOf p (addressOf i)) q ∙ whole i (f .plain);
+      same-identifier = ap (λ (p : ℕ). identifierOf p (addressOf i)) q ∙ whole i (f .fits) (f .clear);
       same-remote = refl;
       same-data = data-again s short;
     }
@@ -119,7 +119,7 @@ request-again kind i a m f h =
       given =
           rw (← e .0, ← e .1)
           (unrefused-is w.Refused (handedRefusal kind 0) (w.Written (requestFrame (addressOf i))) (holds (among kind handedTypes) badType 0 (f .handed) refl));
-      same-identifier = ap (λ (p : ℕ). identifierOf p (addressOf i)) (sym p) ∙ whole i (f .plain);
+      same-identifier = ap (λ (p : ℕ). identifierOf p (addressOf i)) (sym p) ∙ whole i (f .fits) (f .clear);
       same-remote = refl;
       same-data = refl;
     }

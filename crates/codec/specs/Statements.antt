@@ -5,7 +5,7 @@ use mathlib.Core.List.{List, []}
 use mathlib.Core.Bool.{true}
 use lib.ListN.{length}
 use Rattle.laws.specs.Limits.{AllBytes}
-use Rattle.laws.specs.Refusals.{badField}
+use Rattle.laws.specs.Refusals.{badField, codeAt}
 use Rattle.laws.specs.Tests.{among}
 use Rattle.frame.specs.Identifiers.{low, identifierOf}
 use Rattle.frame.specs.Types.{handedTypes, rowFor, isListed}
@@ -64,12 +64,12 @@ pub record OfRow (kind c : ℕ) (s : List ℕ) : Type 0 where
   pub sized : length s ≡ rowFor kind c .0
   pub own : c ≡ typeCommand → byte 2 s ≡ kind
 
--- it is read at the address as the message that the documents define, where its fields are allowed, and is 9 where they are not
+-- it is read at the address as the message that the documents define, where its fields are allowed, and is 9 with its byte where they are not
 pub record ReadAs (kind c : ℕ) (a : Address) (s : List ℕ) : Type 0 where
   pub says : Command
   pub documented : Documented s says
   pub read : fault kind says ≡ 0 → reading kind (identifierOf (rowFor kind c .1) a) 0 s ≡ Read a (Tells says)
-  pub refused : (fault kind says ≡ 0 → ⊥) → reading kind (identifierOf (rowFor kind c .1) a) 0 s ≡ Refused badField
+  pub refused : (fault kind says ≡ 0 → ⊥) → reading kind (identifierOf (rowFor kind c .1) a) 0 s ≡ Refused (codeAt badField (fault kind says))
 
 -- every frame of every type's list, at every address
 abbrev pub EveryFrame : Type 0

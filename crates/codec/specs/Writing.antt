@@ -3,7 +3,7 @@ use Prim.Native.Nat.{ℕ}
 use mathlib.Core.List.{[]}
 use mathlib.Core.Bool.{Bool, not, _||_}
 use lib.Dec.{eqb}
-use Rattle.laws.specs.Refusals.{badType, typeNotKnown, notListed, badField}
+use Rattle.laws.specs.Refusals.{badType, typeNotKnown, notListed}
 use Rattle.laws.specs.Tests.{among, unless, unlessRefused}
 use Rattle.laws.specs.Answers.{Numbers, value, refusal}
 use Rattle.frame.specs.Identifiers.{low, identifierOf}
@@ -11,7 +11,7 @@ use Rattle.frame.specs.Types.{noType, handedTypes, rowFor, isListed}
 use Rattle.frame.specs.Bytes.{dataOf}
 use Rattle.frame.specs.Messages.{typeCommand}
 use Rattle.codec.specs.Encoding.{encode}
-use Rattle.frame.specs.Fields.{fault}
+use Rattle.frame.specs.Fields.{fault, fieldRefusal}
 use Rattle.frame.specs.Reading.{ownType}
 use Rattle.frame.specs.declared.bytes.Data.{Data}
 use Rattle.frame.specs.declared.identifiers.Address.{Address}
@@ -30,14 +30,13 @@ handedRefusal kind later = unless (among kind handedTypes) badType later
 abbrev pub typeFits : Data → Bool
 typeFits d = not (eqb (d .1) typeCommand) || eqb (d .0) (rowFor (d .2) typeCommand .0)
 
--- a command m of the bytes d, by the type that decides: 4 for FF of a type that has no such frame, 5 for none, then 6, 9
+-- a command m of the bytes d, by the type that decides: 4 for FF of a type that has no such frame, 5 for none, then 6, and 9 with its byte
 abbrev pub writeRefusal : ℕ → Data → Command → ℕ
 writeRefusal own d m =
     unless (typeFits d) badType
     (unless (not (eqb own noType)) typeNotKnown
     (unless (isListed own (d .1)) notListed
-    (unless (eqb (fault own m) 0) badField
-    0)))
+    (fieldRefusal (fault own m))))
 
 abbrev pub requestFrame : Address → Frame
 requestFrame a = record { identifier = identifierOf low a; remote = 1; bytes = dataOf [] }

@@ -12,11 +12,11 @@ use frame::stop_fault;
 use frame::timed_fault;
 use frame::type_short_fault;
 ghost use mathlib.Core.Path.{_≡_};
-ghost use Rattle.frame.specs.Fields.{fault};
+ghost use Rattle.frame.specs.Fields.{fault, fieldRefusal};
 
-// The number of the first data byte at fault; 0 where every field is allowed.
-pub fn fault_of(kind: u32, m: Command) -> u8
-    ensures { λ r. ⌜ r ≡ fault kind m ⌝ }
+// 9 with the number of the first data byte at fault; 0 where every field is allowed.
+pub fn fault_of(kind: u32, m: Command) -> u16
+    ensures { λ r. ⌜ r ≡ fieldRefusal (fault kind m) ⌝ }
 {
     match m {
         Command::TypeLong(_, _, _, _, _, _) => 0,

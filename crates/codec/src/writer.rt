@@ -10,12 +10,10 @@ use frame::NO_TYPE;
 use frame::TYPE_FRAME;
 use frame::handed_type;
 use frame::row_for;
-use laws::BAD_FIELD;
 use laws::BAD_TYPE;
 use laws::NOT_LISTED;
 use laws::TYPE_NOT_KNOWN;
 use laws::either;
-use laws::unless;
 use laws::wide32;
 ghost use mathlib.Core.Path.{_≡_};
 ghost use Prim.Native.Nat.{_≤_};
@@ -29,17 +27,17 @@ pub struct Frame {
     pub bytes: Data,
 }
 
-// What a message is written as: the frame, or a refusal's number.
+// What a message is written as: the frame, or a refusal, a 9 with its byte.
 pub enum Writing {
     Written(Frame),
-    Refused(u8),
+    Refused(u16),
 }
 
 // The first refusal of a message: a bad handed-in type, before anything that the message says.
-pub fn handed_refusal(kind: u32, later: u8) -> u8
+pub fn handed_refusal(kind: u32, later: u16) -> u16
     ensures { λ r. ⌜ r ≡ handedRefusal kind later ⌝ }
 {
-    unless(handed_type(kind), BAD_TYPE, later)
+    if handed_type(kind) { later } else { BAD_TYPE }
 }
 
 // The type that decides: the one inside H'FF', else the one handed in.
@@ -57,15 +55,21 @@ fn type_fits(d: Data) -> bool
     either(d.1 != TYPE_FRAME, d.0 == row.0)
 }
 
-// A command m of the bytes d, judged by the type that decides: 4, 5, 6, 9.
-fn write_refusal(own: u32, d: Data, m: Command) -> u8
+// A command m of the bytes d, judged by the type that decides: 4, 5, 6, and 9 with its byte.
+fn write_refusal(own: u32, d: Data, m: Command) -> u16
     ensures { λ r. ⌜ r ≡ writeRefusal own d m ⌝ }
 {
+    if !type_fits(d) {
+        return BAD_TYPE;
+    }
+    if own == NO_TYPE {
+        return TYPE_NOT_KNOWN;
+    }
     let row = row_for(own, d.1);
-    let field = unless(fault_of(own, m) == 0, BAD_FIELD, 0);
-    let listed = unless(row.0 != 0, NOT_LISTED, field);
-    let typed = unless(own != NO_TYPE, TYPE_NOT_KNOWN, listed);
-    unless(type_fits(d), BAD_TYPE, typed)
+    if row.0 == 0 {
+        return NOT_LISTED;
+    }
+    fault_of(own, m)
 }
 
 fn identifier_of(priority: u32, address: Address) -> u32

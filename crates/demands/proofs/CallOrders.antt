@@ -1,5 +1,5 @@
 -- The orders of a record put into a buffer, and of the calls from C. Assumes nothing.
-use Prim.Native.Nat.{ℕ, _+_, _%_, _<_}
+use Prim.Native.Nat.{ℕ, _+_, _/_, _%_, _<_}
 use native.Mathlib.Omega.{arith}
 use mathlib.Core.Path.{_≡_, refl, ap}
 use mathlib.Core.Logic.{_≢_}
@@ -8,7 +8,7 @@ use mathlib.Core.Bool.{Bool, true, false, cond}
 use lib.Dec.{ltb, leb}
 use lib.ListN.{length}
 use lib.Seq.{sets}
-use Rattle.laws.specs.Refusals.{badType, notListed, tooShort, badNumber}
+use Rattle.laws.specs.Refusals.{badType, notListed, tooShort, badNumber, codeAt}
 use Rattle.laws.specs.Tests.{among, unless}
 use Rattle.laws.specs.Answers as numbers
 use Rattle.laws.specs.Copies.{copiedIn}
@@ -119,6 +119,9 @@ module _ (kind : ℕ) (out : List ℕ) where
 apart : (value n : ℕ) → value < values → 0 < n → value ≢ refusedWord n
 apart value n h k e = omega arith
 
+of-refusal : (number byte : ℕ) → number < 256 → (refusedWord (codeAt number byte) / 65536 % 256 ≡ number) × (refusedWord (codeAt number byte) / 16777216 ≡ byte)
+of-refusal number byte h = (omega arith, omega arith)
+
 outcome-word : (o : Outcome) → outcomeWord o ≡ wordOf (ofOutcome o) 0
 outcome-word outcome.Done = refl
 outcome-word (outcome.Refused n) = refl
@@ -132,6 +135,7 @@ pub words : Words
 words =
     record {
       apart = apart;
+      of-refusal = of-refusal;
       of-outcome = outcome-word;
       of-answer = answer-word;
       put-record = λ b at gap identifier remote ds.

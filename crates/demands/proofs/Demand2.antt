@@ -9,6 +9,7 @@ use Rattle.codec.specs.declared.writer.Writing.the-variants.{Written, Refused}
 use Rattle.codec.proofs.Accepted.{every-row, every-request}
 use Rattle.codec.proofs.Everything.{every-frame}
 use Rattle.codec.proofs.RoundTrip.{read-then-written, written-then-read, one-frame}
+use Rattle.repair.proofs.Beyond.{first-beyond-repair}
 use Rattle.places.specs.Limits.{addresses}
 use Rattle.history.proofs.Speaks.{names-numbered, speaks-of}
 use Rattle.places.proofs.Fitting.{runs-lie, runs-fit}
@@ -36,6 +37,7 @@ demand-2 =
       every-row = every-row;
       every-request = every-request;
       one-frame = one-frame;
+      first-beyond-repair = first-beyond-repair;
       read-then-written = read-then-written;
       read-then-written-again = read-then-written-again;
       legal-is-written = legal-is-written;

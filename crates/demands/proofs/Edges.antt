@@ -3,7 +3,7 @@ use mathlib.Core.Path.{refl}
 use mathlib.Core.List.{reverse}
 use Rattle.laws.specs.Tab.{tab}
 use Rattle.frame.specs.Types.{lineOf, rowsOf, extentOf, positionIn, nameOf}
-use Rattle.frame.specs.Fields.{askedAllowed}
+use Rattle.frame.specs.Fields.{buttonsAllowed, askedAllowed}
 use Rattle.frame.specs.Reading.{reading, commandRead, requestRead}
 use Rattle.places.specs.Places.{cellAsked, ledAsked, hasName}
 use Rattle.places.specs.Runs.{saidFrom, glowBy, meaningOf, meant, readAs}
@@ -16,7 +16,7 @@ use Rattle.recording.specs.Record.{readWithin}
 use Rattle.demands.specs.Edges.{EdgesHold, EdgesOnBytes}
 
 pub edges-hold : EdgesHold
-unfolding tab lineOf rowsOf extentOf positionIn nameOf askedAllowed reading commandRead requestRead cellAsked ledAsked hasName saidFrom glowBy meaningOf meant readAs sense meaning typed typeOf after gave latest more listed judged judgement outcomeOf stands butLatest struck counted standing kept granted answered allHeard toldName toldAs toldReply numberBytes readNumber readWithin
+unfolding tab lineOf rowsOf extentOf positionIn nameOf buttonsAllowed askedAllowed reading commandRead requestRead cellAsked ledAsked hasName saidFrom glowBy meaningOf meant readAs sense meaning typed typeOf after gave latest more listed judged judgement outcomeOf stands butLatest struck counted standing kept granted answered allHeard toldName toldAs toldReply numberBytes readNumber readWithin
 edges-hold = refl
 
 pub edges-on-bytes : EdgesOnBytes

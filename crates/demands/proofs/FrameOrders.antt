@@ -9,8 +9,8 @@ use mathlib.Core.Bool.{Bool, true, false, not, cond}
 use lib.Dec.{eqb, leb}
 use lib.ListN.{length}
 use native.Mathlib.Omega.{arith}
-use borrow.Author.Tests.{eqb-true, ne-eqb}
-use Rattle.laws.specs.Refusals.{badType, typeNotKnown, notListed, wrongLength, badField}
+use borrow.Author.Tests.{eqb-true, ne-eqb, le-leb}
+use Rattle.laws.specs.Refusals.{badType, typeNotKnown, notListed, wrongLength, badField, codeAt}
 use Rattle.laws.specs.Tests.{among, unless, unlessRefused}
 use Rattle.laws.proofs.Keys.{for-each}
 use Rattle.frame.specs.Identifiers.{priorityOf, addressOf}
@@ -48,6 +48,10 @@ never-six k c later h = go (among k moduleTypes) (type-listed k c h)
     go true l = rw (l refl)
     go false l = refl
 
+-- a refusal of 9 is none of 0
+nine-numbered : (fault : ℕ) → leb 1 (codeAt badField fault) ≡ true
+nine-numbered fault = le-leb 1 (codeAt badField fault) (omega arith)
+
 -- ---- the reader
 module _ (of : Reading → Verdict) (same : (n : ℕ) → of (reader.Refused n) ≡ refuses n) (last : List Test) (kind identifier remote : ℕ) (s : List ℕ) where
   abbrev tells : Reading
@@ -69,8 +73,8 @@ module _ (of : Reading → Verdict) (same : (n : ℕ) → of (reader.Refused n) 
       go true q =
           ap (λ (later : ℕ). of (unlessRefused reader.Refused (unless (leb 2 (length s)) wrongLength later) tells))
           (never-six (byte 2 s) (byte 1 s) (unlesses (rowTests (byte 2 s) identifier s)) q)
-          ∙ refused-or of reader.Refused same (typeTests identifier s) last refl tells (f q)
-      go false q = refused-or of reader.Refused same (otherTests kind identifier s) [] refl tells (g q)
+          ∙ refused-or of reader.Refused same (typeTests identifier s) last (rw (nine-numbered (fault (byte 2 s) (commandOf s)))) tells (f q)
+      go false q = refused-or of reader.Refused same (otherTests kind identifier s) [] (rw (nine-numbered (fault kind (commandOf s)))) tells (g q)
 
   pub reader-order : of (reader.Read (addressOf identifier) TypeRequest) ≡ answers
       → (eqb (byte 1 s) typeCommand ≡ true → of tells ≡ verdict last) → (eqb (byte 1 s) typeCommand ≡ false → of tells ≡ answers)
@@ -105,7 +109,7 @@ module _ (kind : ℕ) (a : Address) (m : Command) where
   only-nine q = rw (eqb-true first typeCommand q) (go (eqb (length (encode m)) (rowFor second typeCommand .0)) (eqb-true (length (encode m)) (rowFor second typeCommand .0)))
     where
       nine : ℕ
-      nine = unless (eqb (fault second m) 0) badField 0
+      nine = unless (eqb (fault second m) 0) (codeAt badField (fault second m)) 0
 
       go : (c : Bool) → (c ≡ true → length (encode m) ≡ rowFor second typeCommand .0)
           → unless c badType (unless (not (eqb second noType)) typeNotKnown (unless (isListed second typeCommand) notListed nine)) ≡ unless c badType nine
@@ -127,10 +131,10 @@ module _ (kind : ℕ) (a : Address) (m : Command) where
       ≡ verdict (among kind handedTypes or badType ∷ cond c (typeWritten m) (otherWritten kind m))
   command-writes true q =
       ap (λ (later : ℕ). ofWriting (unlessRefused writer.Refused (handedRefusal kind later) (written second))) (only-nine q)
-      ∙ handed-then second (typeWritten m) refl
+      ∙ handed-then second (typeWritten m) (rw (nine-numbered (fault second m)))
   command-writes false q =
       let all : writeRefusal kind (dataOf (encode m)) m ≡ unlesses (otherWritten kind m) = rw q in
-      ap (λ (later : ℕ). ofWriting (unlessRefused writer.Refused (handedRefusal kind later) (written kind))) all ∙ handed-then kind (otherWritten kind m) refl
+      ap (λ (later : ℕ). ofWriting (unlessRefused writer.Refused (handedRefusal kind later) (written kind))) all ∙ handed-then kind (otherWritten kind m) (rw (nine-numbered (fault kind m)))
 
 pub writes : (kind : ℕ) (a : Address) (m : Message) → ofWriting (writing kind a m) ≡ verdict (writerOrder kind m)
 unfolding writing commandWritten writtenAs

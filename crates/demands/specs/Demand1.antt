@@ -1,12 +1,13 @@
 -- Demand 1: any identifier, remote flag, data, recording or question is given an answer or the one refusal number that the rules give; a refused
 -- call alters nothing that was handed over. The proofs are proofs/FrameOrders.antt, PictureOrders.antt, QuestionOrders.antt, CallOrders.antt,
 -- ReplayOrders.antt and, of the whole, Demand1.antt.
-use Prim.Native.Nat.{ℕ, _%_, _<_}
+use Prim.Native.Nat.{ℕ, _/_, _%_, _<_}
 use mathlib.Core.Path.{_≡_}
 use mathlib.Core.Logic.{_≢_}
 use mathlib.Core.List.{List, [], _∷_}
 use lib.ListN.{length}
 use Rattle.laws.specs.Answers as numbers
+use Rattle.laws.specs.Refusals.{codeAt}
 use Rattle.frame.specs.Reading.{reading, readingNumbers}
 use Rattle.codec.specs.Writing.{writing, writingNumbers}
 use Rattle.frame.specs.declared.identifiers.Address.{Address}
@@ -138,6 +139,8 @@ pub record Replaying : Type 0 where
 pub record Words : Type 0 where
   -- no value is a refusal
   pub apart : (value n : ℕ) → value < values → 0 < n → value ≢ refusedWord n
+  -- the number of a refusal stands in bits 16 to 23, and its byte in bits 24 to 31
+  pub of-refusal : (number byte : ℕ) → number < 256 → (refusedWord (codeAt number byte) / 65536 % 256 ≡ number) × (refusedWord (codeAt number byte) / 16777216 ≡ byte)
   -- velbus_fresh, fresh_depth, hear, step_back
   pub of-outcome : (o : Outcome) → outcomeWord o ≡ wordOf (ofOutcome o) 0
   -- velbus_kept, listed and every question on an address

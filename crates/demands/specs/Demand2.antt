@@ -6,6 +6,7 @@ use Rattle.frame.specs.Bytes.{dataBytes}
 use Rattle.frame.specs.Reading.{reading}
 use Rattle.codec.specs.Writing.{writing}
 use Rattle.codec.specs.Statements.{ReadThenWritten, WrittenThenRead, OneFrame, EveryFrame, EveryRow, EveryRequest}
+use Rattle.repair.specs.Beyond.{FirstBeyondRepair}
 use Rattle.frame.specs.declared.identifiers.Address.{Address}
 use Rattle.frame.specs.declared.messages.Message.{Message}
 use Rattle.frame.specs.declared.messages.Reading.the-variants.{Read}
@@ -35,6 +36,8 @@ pub record Demand2 : Type 0 where
   pub every-row : EveryRow
   pub every-request : EveryRequest
   pub one-frame : OneFrame
+  -- the byte that a 9 comes with, in reading and in writing
+  pub first-beyond-repair : FirstBeyondRepair
   -- read-then-written is the same frame, for a C caller too
   pub read-then-written : ReadThenWritten
   pub read-then-written-again : ReadThenWrittenAgain

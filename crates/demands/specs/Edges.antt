@@ -4,7 +4,7 @@ use Prim.Native.Nat.{ℕ, _≤_}
 use mathlib.Core.Path.{_≡_}
 use mathlib.Core.List.{List, [], _∷_, map, reverse}
 use lib.ListN.{length, replicate}
-use Rattle.laws.specs.Refusals.{badIdentifier, badForm, badPriority, wrongPriority, badField, nothingKept, notWhole, badNumber}
+use Rattle.laws.specs.Refusals.{badIdentifier, sid0Set, badForm, badPriority, wrongPriority, badField, codeAt, nothingKept, notWhole, badNumber}
 use Rattle.frame.specs.Identifiers.{priorityOf, addressOf}
 use Rattle.frame.specs.Reading.{reading}
 use Rattle.frame.specs.declared.identifiers.Address.{Address}
@@ -60,6 +60,10 @@ lowExample = 1620
 abbrev pub highExample : ℕ
 highExample = 84
 
+-- a 9 with the number of its byte
+abbrev pub badAt : ℕ → Reading
+badAt byte = Refused (codeAt badField byte)
+
 -- an identifier is of this priority and address
 abbrev pub identifies : ℕ → ℕ → Address → Row
 identifies i p a = record { given = parts (priorityOf i) (addressOf i); right = parts p a }
@@ -109,7 +113,7 @@ abbrev pub asksFor : ℕ → Row
 asksFor x = accepts 0x03 lowExample (0xEF ∷ x ∷ []) (NameAsked x)
 
 abbrev pub asksNone : ℕ → Row
-asksNone x = reads 0x03 lowExample 0 (0xEF ∷ x ∷ []) (Refused badField)
+asksNone x = reads 0x03 lowExample 0 (0xEF ∷ x ∷ []) (badAt 2)
 
 -- ---- what they speak of
 -- four cells told from a location
@@ -151,17 +155,18 @@ change = heard (0xFC ∷ 0x00 ∷ 0x05 ∷ 0x07 ∷ [])
 -- ---- the table, in the paper's order
 abbrev pub edges : List Row
 edges =
-    -- 1620 is low (3), address H'2A'; 1621 and 2048: 1; 596: 3
+    -- 1620 is low (3), address H'2A'; 1621: 17; 2048 and 2049: 1; 596: 3
     identifies lowExample 3 at
-    ∷ reads 0x0A 1621 0 (0xCB ∷ []) (Refused badIdentifier)
+    ∷ reads 0x0A 1621 0 (0xCB ∷ []) (Refused sid0Set)
     ∷ reads 0x0A 2048 0 (0xCB ∷ []) (Refused badIdentifier)
+    ∷ reads 0x0A 2049 0 (0xCB ∷ []) (Refused badIdentifier)
     ∷ reads 0x0A 596 0 (0xCB ∷ []) (Refused badPriority)
     -- remote, 1620, no data: type request; remote, 84: 8; remote with one byte: 2
     ∷ reads 0 lowExample 1 [] (Read at TypeRequest)
     ∷ reads 0 highExample 1 [] (Refused wrongPriority)
     ∷ reads 0 lowExample 1 (0x00 ∷ []) (Refused badForm)
     -- EF 03: refused 9 for H'0A', accepted for H'03'
-    ∷ reads 0x0A lowExample 0 (0xEF ∷ 0x03 ∷ []) (Refused badField)
+    ∷ reads 0x0A lowExample 0 (0xEF ∷ 0x03 ∷ []) (badAt 2)
     ∷ accepts 0x03 lowExample (0xEF ∷ 0x03 ∷ []) (NameAsked 0x03)
     -- EF of H'03' by document 02, W-203: H'33' is accepted, H'01' is still refused; F0 of H'13' is refused
     ∷ asksNone 0x00
@@ -174,12 +179,19 @@ edges =
     ∷ asksFor 0x33
     ∷ asksNone 0x34
     ∷ asksNone 0x43
-    ∷ reads 0x03 lowExample 0 (0xF0 ∷ 0x13 ∷ 0 ∷ 0 ∷ 0 ∷ 0 ∷ 0 ∷ 0 ∷ []) (Refused badField)
+    ∷ reads 0x03 lowExample 0 (0xF0 ∷ 0x13 ∷ 0 ∷ 0 ∷ 0 ∷ 0 ∷ 0 ∷ 0 ∷ []) (badAt 2)
     -- CC at H'00FC' accepted, H'00FD' refused 9 for H'0A'; H'007C' and H'007D' likewise for H'03'
     ∷ accepts 0x0A lowExample (block 0xFC) (blockTold 0xFC)
-    ∷ reads 0x0A lowExample 0 (block 0xFD) (Refused badField)
+    ∷ reads 0x0A lowExample 0 (block 0xFD) (badAt 3)
     ∷ accepts 0x03 lowExample (block 0x7C) (blockTold 0x7C)
-    ∷ reads 0x03 lowExample 0 (block 0x7D) (Refused badField)
+    ∷ reads 0x03 lowExample 0 (block 0x7D) (badAt 3)
+    -- the byte of a 9, by document 02, W-206: a channel; a high byte and a low one, a low one alone; of two the first; a button's last character; 00
+    ∷ reads 0x0A lowExample 0 (0xF0 ∷ 0x03 ∷ 0 ∷ 0 ∷ 0 ∷ 0 ∷ 0 ∷ 0 ∷ []) (badAt 2)
+    ∷ reads 0x03 lowExample 0 (0xFE ∷ 0x01 ∷ 0x80 ∷ 0x2A ∷ []) (badAt 2)
+    ∷ reads 0x03 lowExample 0 (0xFE ∷ 0x00 ∷ 0x80 ∷ 0x2A ∷ []) (badAt 3)
+    ∷ reads 0x03 lowExample 0 (0xEC ∷ 0x03 ∷ 0x04 ∷ 0x00 ∷ 0x03 ∷ 0 ∷ 0 ∷ 0 ∷ []) (badAt 3)
+    ∷ reads 0x03 lowExample 0 (0xF2 ∷ 0x10 ∷ 0x41 ∷ 0x42 ∷ 0x43 ∷ 0x44 ∷ []) (badAt 6)
+    ∷ reads 0x03 highExample 0 (0x00 ∷ 0x33 ∷ 0x00 ∷ 0x04 ∷ []) (badAt 4)
     -- F4 01 01 00: LED 1 on, the rest off; F4 00 03 02: LED 1 slow, LED 2 very fast
     ∷ leds (0xF4 ∷ 0x01 ∷ 0x01 ∷ 0x00 ∷ []) (1 ∷ 0 ∷ 0 ∷ 0 ∷ 0 ∷ 0 ∷ 0 ∷ 0 ∷ [])
     ∷ leds (0xF4 ∷ 0x00 ∷ 0x03 ∷ 0x02 ∷ []) (2 ∷ 4 ∷ 0 ∷ 0 ∷ 0 ∷ 0 ∷ 0 ∷ 0 ∷ [])

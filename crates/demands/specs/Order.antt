@@ -4,9 +4,9 @@ use mathlib.Core.List.{List, [], _∷_, _++_}
 use mathlib.Core.Bool.{Bool, false, not, _||_, cond}
 use lib.Dec.{eqb, ltb, leb}
 use lib.ListN.{length}
-use Rattle.laws.specs.Refusals.{badIdentifier, badForm, badPriority, badType, typeNotKnown, notListed, wrongLength, wrongPriority, badField, noRoom, nothingKept, noSuchPlace, tooShort, notWhole, badNumber}
+use Rattle.laws.specs.Refusals.{badIdentifier, sid0Set, badForm, badPriority, badType, typeNotKnown, notListed, wrongLength, wrongPriority, badField, codeAt, noRoom, nothingKept, noSuchPlace, tooShort, notWhole, badNumber}
 use Rattle.laws.specs.Tests.{among}
-use Rattle.frame.specs.Identifiers.{low, priorities, priorityOf, plainIdentifier, wellFormed}
+use Rattle.frame.specs.Identifiers.{low, priorities, priorityOf, elevenBits, sid0Clear, wellFormed}
 use Rattle.frame.specs.Types.{noType, moduleTypes, handedTypes, rowFor, isListed, extentOf}
 use Rattle.frame.specs.Bytes.{byte}
 use Rattle.frame.specs.Messages.{typeCommand}
@@ -48,11 +48,12 @@ verdict [] = answers
 verdict (t ∷ ts) = cond (t .passes) (verdict ts) (refuses (t .number))
 
 -- ---- frames
--- a bad handed-in type (4), 1, 2, 3
+-- a bad handed-in type (4), 1, 17, 2, 3
 abbrev pub formTests : ℕ → ℕ → ℕ → List ℕ → List Test
 formTests kind identifier remote s =
     among kind handedTypes or badType
-    ∷ plainIdentifier identifier or badIdentifier
+    ∷ elevenBits identifier or badIdentifier
+    ∷ sid0Clear identifier or sid0Set
     ∷ wellFormed remote (length s) or badForm
     ∷ among (priorityOf identifier) priorities or badPriority
     ∷ []
@@ -61,12 +62,16 @@ formTests kind identifier remote s =
 abbrev pub requestTests : ℕ → List Test
 requestTests identifier = eqb (priorityOf identifier) low or wrongPriority ∷ []
 
+-- every field is allowed, or 9 with the number of the byte at fault
+abbrev pub allowedTest : ℕ → Test
+allowedTest fault = eqb fault 0 or codeAt badField fault
+
 -- a command in the type's list: 7, 8, 9
 abbrev pub rowTests : ℕ → ℕ → List ℕ → List Test
 rowTests kind identifier s =
     eqb (length s) (rowFor kind (byte 1 s) .0) or wrongLength
     ∷ eqb (priorityOf identifier) (rowFor kind (byte 1 s) .1) or wrongPriority
-    ∷ eqb (fault kind (commandOf s)) 0 or badField
+    ∷ allowedTest (fault kind (commandOf s))
     ∷ []
 
 -- FF with fewer than 2 bytes is 7; then its type byte (4), and 7, 8, 9 by the type inside it
@@ -94,12 +99,12 @@ readerOrder kind identifier remote s = frameOrder [] kind identifier remote s
 -- the writer: FF goes by the type inside it, which has a type frame of that length (4), and then 9
 abbrev pub typeWritten : Command → List Test
 typeWritten m =
-    eqb (length (encode m)) (rowFor (byte 2 (encode m)) typeCommand .0) or badType ∷ eqb (fault (byte 2 (encode m)) m) 0 or badField ∷ []
+    eqb (length (encode m)) (rowFor (byte 2 (encode m)) typeCommand .0) or badType ∷ allowedTest (fault (byte 2 (encode m)) m) ∷ []
 
 -- any other command: 5, 6, 9
 abbrev pub otherWritten : ℕ → Command → List Test
 otherWritten kind m =
-    not (eqb kind noType) or typeNotKnown ∷ isListed kind (byte 1 (encode m)) or notListed ∷ eqb (fault kind m) 0 or badField ∷ []
+    not (eqb kind noType) or typeNotKnown ∷ isListed kind (byte 1 (encode m)) or notListed ∷ allowedTest (fault kind m) ∷ []
 
 -- the type request has nothing left to test
 abbrev pub messageTests : ℕ → Message → List Test

@@ -110,7 +110,8 @@ at-sight kind identifier remote s level even told taken =
     let f : Framed kind identifier remote (length s) =
     record {
       handed = module-handed kind (listed-module kind (byte 1 s) (l .listed));
-      plain = rw (le-leb identifier 2047 (omega arith), even);
+      fits = le-leb identifier 2047 (omega arith);
+      clear = rw even;
       formed = rw (told, le-leb 1 (length s) (omega (arith, some)), le-leb (length s) 8 (omega (arith, row-size kind (byte 1 s))));
       known = rw level;
     } in

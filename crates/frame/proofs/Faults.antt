@@ -16,14 +16,14 @@ use Rattle.laws.proofs.Testing.{or-right}
 use Rattle.frame.specs.Types.{noType, moduleTypes}
 use Rattle.frame.specs.Bytes.{bytesOf}
 use Rattle.frame.specs.Messages.{Reader, readers, unlisted, typeCommand, decode}
-use Rattle.frame.specs.Fields.{fault}
-use Rattle.frame.specs.Reading.{fieldRefusal, byRow, rowRefusal, commandRefusal}
+use Rattle.frame.specs.Fields.{fault, fieldRefusal}
+use Rattle.frame.specs.Reading.{byRow, rowRefusal, commandRefusal}
 use Rattle.frame.specs.declared.bytes.Data.{Data}
 use Rattle.frame.specs.declared.messages.Command.{Command}
 use Rattle.frame.proofs.Numbers.{behind, by-row}
 
-pub arm : (own c : ℕ) (d : Data) → d .1 ≡ c → {r : ℕ} → r ≡ fault own (decode (behind c d)) → r ≡ fault own (decode (bytesOf d))
-arm own c d e h = h ∙ ap (λ (k : ℕ). fault own (decode (behind k d))) (sym e)
+pub arm : (own c : ℕ) (d : Data) → d .1 ≡ c → {r : ℕ} → r ≡ fieldRefusal (fault own (decode (behind c d))) → r ≡ fieldRefusal (fault own (decode (bytesOf d)))
+arm own c d e h = h ∙ ap (λ (k : ℕ). fieldRefusal (fault own (decode (behind k d)))) (sym e)
 
 -- the commands with an arm; every other has no field that is not free
 abbrev pub fielded : List ℕ
@@ -40,9 +40,10 @@ all-tame own d = for-any (λ (r : Reader). r .command) (λ (r : Reader). r .read
     or-true true = refl
     or-true false = refl
 
-pub no-arm : (own : ℕ) (d : Data) {c : ℕ} → c ≡ d .1 → NoneOf (Unit {0}) c fielded → 0 ≡ fault own (decode (bytesOf d))
+pub no-arm : (own : ℕ) (d : Data) {c : ℕ} → c ≡ d .1 → NoneOf (Unit {0}) c fielded → 0 ≡ fieldRefusal (fault own (decode (bytesOf d)))
 no-arm own d {c} e h =
-    sym (eqb-true (fault own (decode (bytesOf d))) 0 (or-right (among (d .1) fielded) _ (all-tame own d) (ap (λ (k : ℕ). among k fielded) (sym e) ∙ not-among c fielded h)))
+    ap fieldRefusal
+    (sym (eqb-true (fault own (decode (bytesOf d))) 0 (or-right (among (d .1) fielded) _ (all-tame own d) (ap (λ (k : ℕ). among k fielded) (sym e) ∙ not-among c fielded h))))
 
 module _ (own p : ℕ) (d : Data) (m : Command) {c n : ℕ} (first : c ≡ d .1) (row : n ≡ byRow own c (d .0) p 0) where
   misfit : n ≡ byRow own (d .1) (d .0) p 0
@@ -51,8 +52,8 @@ module _ (own p : ℕ) (d : Data) (m : Command) {c n : ℕ} (first : c ≡ d .1)
   pub misfitted : (n ≡ 0 → ⊥) → n ≡ rowRefusal own p d m
   misfitted h = rw (by-row own (d .1) (d .0) p (fault own m), ← misfit, ne-eqb n 0 h)
 
-  pub fitted : n ≡ 0 → {f r : ℕ} → r ≡ fieldRefusal f → f ≡ fault own m → r ≡ rowRefusal own p d m
-  fitted z e q = rw (by-row own (d .1) (d .0) p (fault own m), ← misfit, eq-eqb n 0 z, ← q) e
+  pub fitted : n ≡ 0 → {r : ℕ} → r ≡ fieldRefusal (fault own m) → r ≡ rowRefusal own p d m
+  fitted z e = rw (by-row own (d .1) (d .0) p (fault own m), ← misfit, eq-eqb n 0 z) e
 
 module _ (kind p : ℕ) (d : Data) (m : Command) {c : ℕ} (first : c ≡ d .1) where
   pub of-no-type : (c ≡ typeCommand → ⊥) → kind ≡ noType → typeNotKnown ≡ commandRefusal kind p d m

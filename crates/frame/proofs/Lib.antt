@@ -1,6 +1,7 @@
 pub mod Listed
 pub mod Positions
 pub mod Ones
+pub mod Codes
 pub mod Judged
 pub mod Numbers
 pub mod Faults

@@ -3,7 +3,7 @@
 // To a frame, to a step back and to a fresh picture: done, or the refusal's number.
 pub enum Outcome {
     Done,
-    Refused(u8),
+    Refused(u16),
 }
 
 // The number that stands for a place which is not heard.
@@ -13,5 +13,5 @@ pub const NOT_HEARD: u16 = 256;
 pub enum Answer {
     Value(u16),
     NotHeard,
-    Refused(u8),
+    Refused(u16),
 }

@@ -27,7 +27,7 @@ ghost use Rattle.questions.specs.Fills.{filledTo};
 ghost use Rattle.questions.specs.Replies.{sumTo, nameRefusal, nameNumbers, reply};
 
 // The numbers of a name's characters; or the number of a refusal that both questions have before their own.
-fn name_numbers(picture: &[u8], address: AddressAsked, name: u32, row: &mut [u16; 16]) -> u8
+fn name_numbers(picture: &[u8], address: AddressAsked, name: u32, row: &mut [u16; 16]) -> u16
     ensures { λ r. ⌜ r ≡ nameRefusal (now (picture .entry)) (address .0) name ⌝ }
     ensures { λ _. ⌜ now (row .exit) ≡ nameNumbers (now (picture .entry)) (address .0) name (now (row .entry)) ⌝ }
 {

@@ -24,7 +24,7 @@ pub enum Entry {
     },
     End,
     Broken {
-        refusal: u8,
+        refusal: u16,
         offset: usize,
     },
 }

@@ -16,7 +16,7 @@ ghost use Rattle.recording.specs.Write.{inRange, recordBytes, putAnswer,
 // How many bytes were written, or the refusal's number.
 pub enum Put {
     Wrote(usize),
-    Refused(u8),
+    Refused(u16),
 }
 
 // Whether every number of a record is in its range.

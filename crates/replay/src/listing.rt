@@ -65,7 +65,7 @@ fn put_modules(picture: &[u8], out: &mut [u8], at: usize) -> usize
 }
 
 // The line of a fault, nothing where there is none.
-fn put_fault(out: &mut [u8], at: usize, refusal: u8, offset: u64) -> usize
+fn put_fault(out: &mut [u8], at: usize, refusal: u16, offset: u64) -> usize
     requires { ⌜ Fits (now out) at (faultText refusal offset) ⌝ }
     ensures { λ r. ⌜ Written (now (out .entry)) at (faultText refusal offset) (now (out .exit)) r ⌝ }
 {

@@ -13,14 +13,14 @@ pub struct Replay {
     pub heard: u64,
     pub refused: u64,
     pub at: usize,
-    pub refusal: u8,
+    pub refusal: u16,
     pub offset: usize,
 }
 
 // What hearing a recording answers.
 pub enum Replayed {
     Heard(Replay),
-    Refused(u8),
+    Refused(u16),
 }
 
 // Hears a frame: 1 where it is accepted, else 0.

@@ -18,14 +18,14 @@ pub struct Stream {
     pub refused: u64,
     pub base: u64,
     pub left: usize,
-    pub refusal: u8,
+    pub refusal: u16,
     pub offset: u64,
 }
 
 // What hearing a part answers.
 pub enum Part {
     Heard(Stream),
-    Refused(u8),
+    Refused(u16),
 }
 
 // Moves the bytes from `from` to `filled` to the front.

@@ -91,20 +91,25 @@ pub(crate) fn say_text(text: &[u8]) -> Words {
     w
 }
 
-// A refusal. 14 is given only for a name of which not all is heard.
-pub(crate) fn refused(n: u8) -> Words {
-    if n == laws::NOT_WHOLE {
+// A refusal, a 9 with its byte. 14 is given only for a name of which not all is heard.
+pub(crate) fn refused(code: u16) -> Words {
+    if code == laws::NOT_WHOLE {
         return say(b" not whole");
     }
-    add_decimal(say(b" refused"), n as u64)
+    let w = add_decimal(say(b" refused"), repair::number_in(code) as u64);
+    let byte = repair::byte_in(code);
+    if byte == 0 {
+        return w;
+    }
+    add_decimal(add(w, b" at byte"), byte as u64)
 }
 
-// What comes of a call that answers 0, or a refusal's number.
-pub(crate) fn outcome(n: u8) -> Words {
-    if n == 0 {
+// What comes of a call that answers 0, or a refusal.
+pub(crate) fn outcome(code: u16) -> Words {
+    if code == 0 {
         return say(b" done");
     }
-    refused(n)
+    refused(code)
 }
 
 // The item of a list, after a space.

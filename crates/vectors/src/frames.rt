@@ -12,13 +12,13 @@ use crate::words::FLAGS;
 use crate::words::PRIORITIES;
 use crate::words::Reader;
 
-// A result word from here on holds a refusal's number, in these units.
+// A result word from here on holds a refusal, a 9 with its byte, in these units.
 const REFUSAL: u32 = 65536;
 
-// What comes of reading besides a refusal's number: what was read is written as the same frame, or not.
-const KEPT: u8 = 0;
+// What comes of reading besides a refusal: what was read is written as the same frame, or not.
+const KEPT: u16 = 0;
 
-const CHANGED: u8 = 100;
+const CHANGED: u16 = 100;
 
 // Identifiers of address H'2A' at lowest and highest priority, and at those that no frame has.
 const LOW: u32 = 1620;
@@ -34,17 +34,17 @@ const OTHER_TYPE: u32 = 0x0B;
 
 // A message, or a frame, in the layout of docs/INTERFACE.md, or the number of the refusal in its place.
 struct ReadAs {
-    refusal: u8,
+    refusal: u16,
     message: [u8; 20],
 }
 
 struct WrittenAs {
-    refusal: u8,
+    refusal: u16,
     frame: [u8; 12],
 }
 
-fn refusal(word: u32) -> u8 {
-    (word / REFUSAL % 256) as u8
+fn refusal(word: u32) -> u16 {
+    (word / REFUSAL) as u16
 }
 
 fn message_of(kind: u32, identifier: u32, remote: u32, data: &[u8]) -> ReadAs {
@@ -85,7 +85,7 @@ fn laid(identifier: u32, remote: u32, data: &[u8]) -> [u8; 12] {
     out
 }
 
-fn read_number(kind: u32, identifier: u32, remote: u32, data: &[u8]) -> u8 {
+fn read_number(kind: u32, identifier: u32, remote: u32, data: &[u8]) -> u16 {
     let r = message_of(kind, identifier, remote, data);
     if r.refusal != 0 {
         return r.refusal;
@@ -109,7 +109,7 @@ pub(crate) fn read(r: Reader, data: &[u8]) -> Words {
 }
 
 // The same of a frame with one byte after the data.
-fn ended(r: Reader, data: &[u8], last: u8) -> u8 {
+fn ended(r: Reader, data: &[u8], last: u8) -> u16 {
     let mut room = [0u8; 9];
     laws::copy_in(&mut room, 0, data);
     laws::copy_in(&mut room, data.len(), &[last]);
@@ -117,7 +117,7 @@ fn ended(r: Reader, data: &[u8], last: u8) -> u8 {
 }
 
 // What comes of all so far that are not kept, and of one more.
-fn alike(others: u8, n: u8) -> u8 {
+fn alike(others: u16, n: u16) -> u16 {
     if others == KEPT {
         return n;
     }
@@ -143,36 +143,41 @@ pub(crate) fn each(r: Reader, data: &[u8]) -> Words {
     add(add(kept, b" else"), part(&bytes, 0, w.count))
 }
 
+// What comes of reading, without the byte of a 9, which no layout is refused for.
+fn number(kind: u32, identifier: u32, remote: u32, data: &[u8]) -> u8 {
+    (read_number(kind, identifier, remote, data) % 256) as u8
+}
+
 // The data with the last byte left out.
 fn less(kind: u32, identifier: u32, data: &[u8]) -> u8 {
     let n = std::num::wrapping_sub_usize(data.len(), 1);
-    read_number(kind, identifier, 0, part(data, 0, n))
+    number(kind, identifier, 0, part(data, 0, n))
 }
 
 // The data with a byte more.
 fn more(kind: u32, identifier: u32, data: &[u8]) -> u8 {
     let mut room = [0u8; 9];
     laws::copy_in(&mut room, 0, data);
-    read_number(kind, identifier, 0, part(&room, 0, past(data.len(), 1)))
+    number(kind, identifier, 0, part(&room, 0, past(data.len(), 1)))
 }
 
 // What comes at address H'2A', at the first and at the last; at the other priority, with bit SID0, beyond all identifiers; with a byte
 // less and with a byte more, with remote flags 1 and 2, at the priorities that no frame has, for a type that is none.
 fn around(kind: u32, own: u32, data: &[u8]) -> [u8; 13] {
     [
-        read_number(kind, own, 0, data),
-        read_number(kind, std::num::wrapping_sub_u32(own, HIGH), 0, data),
-        read_number(kind, std::num::wrapping_add_u32(own, 426), 0, data),
-        read_number(kind, std::num::wrapping_sub_u32(LOW + HIGH, own), 0, data),
-        read_number(kind, std::num::wrapping_add_u32(own, 1), 0, data),
-        read_number(kind, 2048, 0, data),
+        number(kind, own, 0, data),
+        number(kind, std::num::wrapping_sub_u32(own, HIGH), 0, data),
+        number(kind, std::num::wrapping_add_u32(own, 426), 0, data),
+        number(kind, std::num::wrapping_sub_u32(LOW + HIGH, own), 0, data),
+        number(kind, std::num::wrapping_add_u32(own, 1), 0, data),
+        number(kind, 2048, 0, data),
         less(kind, own, data),
         more(kind, own, data),
-        read_number(kind, own, 1, data),
-        read_number(kind, own, 2, data),
-        read_number(kind, SECOND, 0, data),
-        read_number(kind, THIRD, 0, data),
-        read_number(OTHER_TYPE, own, 0, data),
+        number(kind, own, 1, data),
+        number(kind, own, 2, data),
+        number(kind, SECOND, 0, data),
+        number(kind, THIRD, 0, data),
+        number(OTHER_TYPE, own, 0, data),
     ]
 }
 
@@ -180,7 +185,7 @@ fn around(kind: u32, own: u32, data: &[u8]) -> [u8; 13] {
 fn documented_as(n: usize) -> [u8; 13] {
     let less = if n == 1 { 2 } else { 7 };
     let more = if n == 8 { 2 } else { 7 };
-    [KEPT, KEPT, KEPT, 8, 1, 1, less, more, 2, 2, 3, 3, 4]
+    [0, 0, 0, 8, 17, 1, less, more, 2, 2, 3, 3, 4]
 }
 
 // A layout of the documents, at its priority. Where something else comes than is to come, that is shown.

@@ -1,4 +1,4 @@
-// What the picture makes of frames and steps back, and what it answers. Calls that change it answer a refusal's number, or 0.
+// What the picture makes of frames and steps back, and what it answers. Calls that change it answer a refusal, or 0.
 use crate::answers::Words;
 use crate::answers::answer;
 use crate::rows::NO_CALL;
@@ -11,32 +11,32 @@ use places::Outcome;
 use questions::AddressAsked;
 use questions::LocationAsked;
 
-fn refusal(o: Outcome) -> u8 {
+fn refusal(o: Outcome) -> u16 {
     match o {
         Outcome::Done => 0,
         Outcome::Refused(n) => n,
     }
 }
 
-pub(crate) fn fresh(picture: &mut [u8]) -> u8 {
+pub(crate) fn fresh(picture: &mut [u8]) -> u16 {
     refusal(picture::fresh(picture))
 }
 
 // A way back of the depth that is named.
-pub(crate) fn fresh_depth(r: Reader, picture: &mut [u8]) -> u8 {
+pub(crate) fn fresh_depth(r: Reader, picture: &mut [u8]) -> u16 {
     refusal(picture::fresh_with(picture, r.a))
 }
 
-pub(crate) fn hear(picture: &mut [u8], identifier: u32, remote: u32, data: &[u8]) -> u8 {
+pub(crate) fn hear(picture: &mut [u8], identifier: u32, remote: u32, data: &[u8]) -> u16 {
     refusal(picture::hear(picture, identifier, remote, data))
 }
 
-pub(crate) fn back(picture: &mut [u8]) -> u8 {
+pub(crate) fn back(picture: &mut [u8]) -> u16 {
     refusal(picture::step_back(picture))
 }
 
 // The first of two refusals.
-fn first(a: u8, b: u8) -> u8 {
+fn first(a: u16, b: u16) -> u16 {
     if a == 0 { b } else { a }
 }
 
@@ -49,7 +49,7 @@ fn type_frame(kind: u32) -> [u8; 8] {
     }
 }
 
-fn enter(picture: &mut [u8], kind: u32, identifier: u32) -> u8 {
+fn enter(picture: &mut [u8], kind: u32, identifier: u32) -> u16 {
     let f = type_frame(kind);
     let end = past_count(f[0]);
     hear(picture, identifier, 0, part(&f, 1, end))
@@ -60,7 +60,7 @@ fn past_count(n: u8) -> usize {
 }
 
 // A fresh picture, in which two modules enter.
-pub(crate) fn fresh_with(r: Reader, picture: &mut [u8]) -> u8 {
+pub(crate) fn fresh_with(r: Reader, picture: &mut [u8]) -> u16 {
     fresh(picture);
     let one = enter(picture, r.a, r.b);
     first(one, enter(picture, r.c, r.d))
@@ -85,12 +85,12 @@ pub(crate) fn asked(letter: u8, r: Reader, picture: &[u8]) -> Words {
 }
 
 // One refusal that both are.
-pub(crate) fn both(a: u8, b: u8) -> u8 {
+pub(crate) fn both(a: u16, b: u16) -> u16 {
     if a == b { a } else { NO_CALL }
 }
 
 // What calls on a picture answer where it is too short; what else they are handed is wrong too.
-pub(crate) fn short(picture: &mut [u8]) -> u8 {
+pub(crate) fn short(picture: &mut [u8]) -> u16 {
     let changed = both(fresh(picture), hear(picture, 1621, 0, b""));
     let back = both(changed, back(picture));
     both(back, crate::rows::refusal(number(picture, b'C', 256, 256)))

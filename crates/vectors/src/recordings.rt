@@ -25,7 +25,7 @@ const RECORD_ROOM: u32 = 32;
 
 // What a writer answers: the refusal's number, or 0 and where the bytes end.
 struct Filled {
-    refusal: u8,
+    refusal: u16,
     end: usize,
 }
 
@@ -94,7 +94,7 @@ pub(crate) fn record(mut r: Reader, data: &[u8]) -> Words {
     put(r, data)
 }
 
-fn broken(offset: usize, refusal: u8) -> Words {
+fn broken(offset: usize, refusal: u16) -> Words {
     let w = add_decimal(say(b" broken at byte"), offset as u64);
     add_decimal(add(w, b" refusal"), refusal as u64)
 }
@@ -115,7 +115,7 @@ fn hear(picture: &mut [u8], s: &[u8], n: usize) -> Part {
     replay::hear_part(picture, &mut window, replay::begin(), n)
 }
 
-fn part_refusal(p: Part) -> u8 {
+fn part_refusal(p: Part) -> u16 {
     match p {
         Part::Heard(_) => 0,
         Part::Refused(n) => n,
@@ -161,27 +161,27 @@ pub(crate) fn listing(picture: &mut [u8], s: &[u8]) -> Words {
     }
 }
 
-fn all_refusal(picture: &mut [u8]) -> u8 {
+fn all_refusal(picture: &mut [u8]) -> u16 {
     match replay::hear_all(picture, b"") {
         Replayed::Heard(_) => 0,
         Replayed::Refused(n) => n,
     }
 }
 
-fn listing_refusal(picture: &[u8]) -> u8 {
+fn listing_refusal(picture: &[u8]) -> u16 {
     let mut room = [b'.'; ROOM];
     list_into(picture, &mut room, ROOM, replay::begin()).refusal
 }
 
 // The one refusal of calls on a picture that is too short, of a recording, of a part of one, and of a listing.
-fn refusal(picture: &mut [u8]) -> u8 {
+fn refusal(picture: &mut [u8]) -> u16 {
     let calls = both(pictures::short(picture), all_refusal(picture));
     let part = both(calls, part_refusal(hear(picture, b"", 0)));
     both(part, listing_refusal(picture))
 }
 
 // The first `r.a` bytes of a picture, as a picture.
-pub(crate) fn short(r: Reader, picture: &mut [u8]) -> u8 {
+pub(crate) fn short(r: Reader, picture: &mut [u8]) -> u16 {
     let n = r.a as usize;
     if n > picture.len() {
         return NO_CALL;

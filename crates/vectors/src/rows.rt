@@ -26,10 +26,10 @@ const UNTOUCHED: u16 = 777;
 const NO_MARK: u8 = 9;
 
 // Where a question asks for more than there is room for, and no call is made: no refusal has this number.
-pub const NO_CALL: u8 = 255;
+pub const NO_CALL: u16 = 255;
 
 // The refusal's number of a call that fills a buffer; 0 where it filled it.
-pub(crate) fn refusal(a: Answer) -> u8 {
+pub(crate) fn refusal(a: Answer) -> u16 {
     match a {
         Answer::Refused(n) => n,
         _ => 0,
@@ -44,7 +44,7 @@ fn only(room: &[u8; ROOM], from: usize, filled: &[u8]) -> bool {
 }
 
 // What was filled, by the letter of the statement: text, or bytes.
-fn shown(letter: u8, refusal: u8, filled: &[u8]) -> Words {
+fn shown(letter: u8, refusal: u16, filled: &[u8]) -> Words {
     if refusal != 0 {
         return refused(refusal);
     }
@@ -55,7 +55,13 @@ fn shown(letter: u8, refusal: u8, filled: &[u8]) -> Words {
 }
 
 // What a call made of a buffer of dots: it filled what stands from `from` to before `to`, or refused to, and then `to` is `from`.
-pub(crate) fn room_of(letter: u8, refusal: u8, room: &[u8; ROOM], from: usize, to: usize) -> Words {
+pub(crate) fn room_of(
+    letter: u8,
+    refusal: u16,
+    room: &[u8; ROOM],
+    from: usize,
+    to: usize,
+) -> Words {
     let filled = part(room, from, to);
     let w = shown(letter, refusal, filled);
     if only(room, from, filled) {
@@ -89,7 +95,7 @@ pub(crate) fn name(letter: u8, r: Reader, picture: &[u8]) -> Words {
 }
 
 // An entry of a row after the call.
-fn entry(letter: u8, refusal: u8, v: u16) -> Words {
+fn entry(letter: u8, refusal: u16, v: u16) -> Words {
     match v {
         UNTOUCHED => untouched(refusal),
         NOT_HEARD => say(b" not heard"),
@@ -98,7 +104,7 @@ fn entry(letter: u8, refusal: u8, v: u16) -> Words {
 }
 
 // A refusal leaves the row as it was.
-fn untouched(refusal: u8) -> Words {
+fn untouched(refusal: u16) -> Words {
     if refusal == 0 {
         return say(b" untouched");
     }
@@ -106,7 +112,7 @@ fn untouched(refusal: u8) -> Words {
 }
 
 // The memory row, into the first n entries.
-fn fill_row(picture: &[u8], at: u32, row: &mut [u16], n: usize) -> u8 {
+fn fill_row(picture: &[u8], at: u32, row: &mut [u16], n: usize) -> u16 {
     if n > row.len() {
         return NO_CALL;
     }
@@ -124,7 +130,7 @@ pub(crate) fn row(r: Reader, picture: &[u8]) -> Words {
 }
 
 // The listed addresses, into the first n bytes.
-fn fill_listed(picture: &[u8], row: &mut [u8], n: usize) -> u8 {
+fn fill_listed(picture: &[u8], row: &mut [u8], n: usize) -> u16 {
     if n > row.len() {
         return NO_CALL;
     }

@@ -58,7 +58,7 @@ fn asked(letter: u8, r: Reader, data: &[u8], picture: &[u8]) -> Words {
 }
 
 // What changes the picture: a refusal's number, or 0.
-fn changed(letter: u8, r: Reader, data: &[u8], picture: &mut [u8]) -> u8 {
+fn changed(letter: u8, r: Reader, data: &[u8], picture: &mut [u8]) -> u16 {
     match letter {
         b'F' => pictures::fresh(picture),
         b'X' => pictures::fresh_depth(r, picture),

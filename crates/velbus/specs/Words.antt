@@ -1,4 +1,5 @@
--- The result word: bits 0 to 15 the value, bits 16 to 23 the refusal number. A refused word has value 0.
+-- The result word: bits 0 to 15 the value; bits 16 to 23 the refusal number; bits 24 to 31 the number of the data byte that a 9 comes with, 0 for
+-- every other. A refused word has value 0.
 use Prim.Native.Nat.{ℕ, _*_, _%_}
 use mathlib.Core.Bool.{cond}
 use lib.Dec.{leb}
@@ -13,12 +14,12 @@ abbrev pub values : ℕ
 values = 65536
 
 abbrev pub refusedWord : ℕ → ℕ
-refusedWord number = values * number
+refusedWord code = values * code
 
 -- of an answer in the paper's numbers
 abbrev pub word : Numbers → ℕ
 word (value v) = v % values
-word (refusal number) = refusedWord number
+word (refusal code) = refusedWord code
 
 abbrev pub outcomeWord : Outcome → ℕ
 outcomeWord o = word (outcomeNumbers o)

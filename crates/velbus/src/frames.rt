@@ -50,7 +50,7 @@ pub extern "C" fn velbus_read(
 {
     match codec::read(kind, identifier, remote, data) {
         Reading::Read(a, m) => lay_message(message, a, m),
-        Reading::Refused(number) => refused(number),
+        Reading::Refused(code) => refused(code),
     }
 }
 
@@ -91,7 +91,7 @@ fn write_message(kind: u32, a: Address, m: Message, out: &mut [u8]) -> u32
 {
     match codec::write(kind, a, m) {
         Writing::Written(f) => lay_frame(out, f),
-        Writing::Refused(number) => refused(number),
+        Writing::Refused(code) => refused(code),
     }
 }
 

@@ -1,16 +1,15 @@
-// The result word: bits 0 to 15 the value, bits 16 to 23 the refusal number.
+// The result word: bits 0 to 15 the value; bits 16 to 23 the refusal number; bits 24 to 31 the number of the data byte that a 9 comes with.
 use laws::TOO_SHORT;
-use laws::wide32;
 use places::Answer;
 use places::NOT_HEARD;
 use places::Outcome;
 ghost use mathlib.Core.Path.{_≡_};
 ghost use Rattle.velbus.specs.Words.{refusedWord, outcomeWord, answerWord, roomWord};
 
-pub fn refused(number: u8) -> u32
-    ensures { λ r. ⌜ r ≡ refusedWord number ⌝ }
+pub fn refused(code: u16) -> u32
+    ensures { λ r. ⌜ r ≡ refusedWord code ⌝ }
 {
-    65536 * wide32(number)
+    65536 * (code as u32)
 }
 
 pub fn outcome_word(outcome: Outcome) -> u32
@@ -18,7 +17,7 @@ pub fn outcome_word(outcome: Outcome) -> u32
 {
     match outcome {
         Outcome::Done => 0,
-        Outcome::Refused(number) => refused(number),
+        Outcome::Refused(code) => refused(code),
     }
 }
 
@@ -28,7 +27,7 @@ pub fn answer_word(answer: Answer) -> u32
     match answer {
         Answer::Value(value) => value as u32,
         Answer::NotHeard => NOT_HEARD as u32,
-        Answer::Refused(number) => refused(number),
+        Answer::Refused(code) => refused(code),
     }
 }
 

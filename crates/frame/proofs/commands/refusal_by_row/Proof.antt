@@ -11,7 +11,7 @@ returns : tie.Need-returns
 returns c = let s = c .before .before .before in let d = dataOf (s .args .«data» .now) in misfitted (s .args .own) (s .args .priority) d (decode (bytesOf d)) (s .pre) (c .before .misfit .ensures) (c .if1 .taken)
 
 returns-2 : tie.Need-returns-2
-returns-2 c = let s = c .before .before .before .before .before in let d = dataOf (s .args .«data» .now) in fitted (s .args .own) (s .args .priority) d (decode (bytesOf d)) (s .pre) (c .before .before .before .misfit .ensures) (c .before .before .if1 .left) (c .field-refusal .ensures) (c .before .fault-in .ensures)
+returns-2 c = let s = c .before .before .before .before in let d = dataOf (s .args .«data» .now) in fitted (s .args .own) (s .args .priority) d (decode (bytesOf d)) (s .pre) (c .before .before .misfit .ensures) (c .before .if1 .left) (c .fault-in .ensures)
 
 pub refusal-by-row-spec : {M : Type 1} → statement M
 refusal-by-row-spec =
@@ -20,5 +20,4 @@ refusal-by-row-spec =
     (λ c κs. search needs)
     returns
     (λ c κs. c .before .before .before .pre)
-    (λ c κs. search needs)
     returns-2)

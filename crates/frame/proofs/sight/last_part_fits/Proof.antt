@@ -3,12 +3,13 @@
 use mathlib.Core.Path.{sym, _∙_}
 use borrow.Author.Tests.{eqb-true}
 use Rattle.laws.proofs.Testing.{not-both}
+use Rattle.frame.proofs.Codes.{untold}
 use borrow.Author.Needs.{needs}
 use Rattle.frame.proofs.sight.last_part_fits.Statement.{statement}
 use Rattle.frame.proofs.sight.last_part_fits.Tie as tie
 
 returns : tie.Need-returns
-returns c h = (c .before .before .before .if1 .taken, rw (← c .before .byte-at2 .ensures, ← c .before .before .byte-at .ensures) (sym (c .last-part-fault .ensures) ∙ eqb-true _ 0 h))
+returns c h = (c .before .before .before .if1 .taken, rw (← c .before .byte-at2 .ensures, ← c .before .before .byte-at .ensures) (untold _ (sym (c .last-part-fault .ensures) ∙ eqb-true _ 0 h)))
 
 returns-2 : tie.Need-returns-2
 returns-2 c h = not-both h

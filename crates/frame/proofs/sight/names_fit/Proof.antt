@@ -4,6 +4,7 @@ use mathlib.Core.Path.{refl, sym, _∙_}
 use borrow.Author.Tests.{eqb-true}
 use Rattle.laws.proofs.Testing.{not-both}
 use Rattle.frame.proofs.Unions.{asked-one}
+use Rattle.frame.proofs.Codes.{untold}
 use borrow.Author.Needs.{needs}
 use Rattle.frame.proofs.sight.names_fit.Statement.{statement}
 use Rattle.frame.proofs.sight.names_fit.Tie as tie
@@ -15,7 +16,7 @@ returns-2 : tie.Need-returns-2
 returns-2 c h = (c .before .before .before .if1 .left, rw (← c .before .before .byte-at .ensures, asked-one _ _ (sym (c .before .channel-allowed .ensures) ∙ c .if2 .taken)))
 
 returns-3 : tie.Need-returns-3
-returns-3 c h = (c .before .before .before .before .if1 .left, rw (← c .before .before .before .byte-at .ensures) (sym (c .name-asked-fault .ensures) ∙ eqb-true _ 0 h))
+returns-3 c h = (c .before .before .before .before .if1 .left, rw (← c .before .before .before .byte-at .ensures) (untold _ (sym (c .name-asked-fault .ensures) ∙ eqb-true _ 0 h)))
 
 pub names-fit-spec : {M : Type 1} → statement M
 names-fit-spec =

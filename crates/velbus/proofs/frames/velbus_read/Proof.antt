@@ -8,7 +8,7 @@ returns : tie.Need-returns
 returns c = rw (← c .before .before .before .before .before .before .before .read .ensures, c .before .before .before .before .before .a .given .1) (c .before .before .lay-message .ensures .0, c .before .before .lay-message .ensures .1)
 
 returns-2 : tie.Need-returns-2
-returns-2 c = rw (← c .before .before .before .before .read .ensures, c .before .before .number .given .1) (c .refused .ensures, refl)
+returns-2 c = rw (← c .before .before .before .before .read .ensures, c .before .before .code .given .1) (c .refused .ensures, refl)
 
 pub velbus-read-spec : {M : Type 1} → statement M
 velbus-read-spec =

@@ -8,7 +8,7 @@ returns : tie.Need-returns
 returns c = rw (← c .before .before .before .before .before .before .before .write .ensures, c .before .before .before .before .before .f .given .1) (c .before .before .lay-frame .ensures .0, c .before .before .lay-frame .ensures .1)
 
 returns-2 : tie.Need-returns-2
-returns-2 c = rw (← c .before .before .before .before .write .ensures, c .before .before .number .given .1) (c .refused .ensures, refl)
+returns-2 c = rw (← c .before .before .before .before .write .ensures, c .before .before .code .given .1) (c .refused .ensures, refl)
 
 pub write-message-spec : {M : Type 1} → statement M
 write-message-spec =

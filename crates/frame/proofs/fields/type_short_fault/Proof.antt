@@ -1,0 +1,13 @@
+-- `frame::fields::type_short_fault` meets its contract.
+-- Assumes nothing.
+use mathlib.Core.Path.{refl}
+use Rattle.frame.proofs.Codes.{told}
+use borrow.Author.Needs.{needs}
+use Rattle.frame.proofs.fields.type_short_fault.Statement.{statement}
+use Rattle.frame.proofs.fields.type_short_fault.Tie as tie
+
+returns : tie.Need-returns
+returns c = rw (told _ 3 _ refl, c .unless .ensures)
+
+pub type-short-fault-spec : {M : Type 1} → statement M
+type-short-fault-spec = tie.close (tie.spec (λ c κs. search needs) returns)

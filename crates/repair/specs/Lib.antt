@@ -1,0 +1,3 @@
+-- Read in this order.
+pub mod Allowed
+pub mod Beyond
