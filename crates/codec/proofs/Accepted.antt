@@ -13,14 +13,14 @@ use Rattle.frame.specs.Types.{lineOf, blindsOf, channelsOf, rowsOf, rowFor, isL
 use Rattle.frame.specs.Bytes.{byte, dataOf}
 use Rattle.frame.specs.Messages.{typeCommand, decode}
 use Rattle.frame.specs.Fields.{buttonsAllowed, askedAllowed}
-use Rattle.frame.specs.Reading.{commandRefusal, commandRead, requestRead}
+use Rattle.judging.specs.Reading.{commandRefusal, commandRead, requestRead}
 use Rattle.codec.specs.Statements.{EveryRow, EveryRequest}
 use Rattle.frame.specs.declared.messages.Message.the-variants.{Tells}
 use Rattle.frame.specs.declared.messages.Reading.the-variants.{Read, Refused}
 use Rattle.frame.specs.declared.types.Row.{Row}
 use Rattle.frame.proofs.Listed.{of-listed, listed-module, module-handed, row-known, row-priority}
 use Rattle.codec.proofs.Shapes.{padded}
-use Rattle.frame.proofs.Judged.{reads-made, request-made}
+use Rattle.judging.proofs.Judged.{reads-made, request-made}
 
 -- the commands whose byte 2 is the high byte of a location, or the buttons that are pressed
 abbrev zeroSecond : List ℕ

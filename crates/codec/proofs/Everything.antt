@@ -17,7 +17,7 @@ use Rattle.frame.specs.Types.{longType, shortType, rowFor, isListed}
 use Rattle.frame.specs.Bytes.{byte, dataOf}
 use Rattle.frame.specs.Messages.{permanent, timeOf, typeCommand, decode}
 use Rattle.frame.specs.Fields.{fault, fieldRefusal}
-use Rattle.frame.specs.Reading.{ownType, rowRefusal, commandRefusal, commandRead, reading}
+use Rattle.judging.specs.Reading.{ownType, rowRefusal, commandRefusal, commandRead, reading}
 use Rattle.frame.specs.declared.bytes.Data.{Data}
 use Rattle.frame.specs.declared.identifiers.Address.{Address}
 use Rattle.frame.specs.declared.messages.Time.the-variants.{DipSwitch, Permanently, Seconds}
@@ -26,8 +26,8 @@ use Rattle.frame.specs.declared.messages.Command.the-variants.{TypeLong, TypeSh
 use Rattle.frame.specs.declared.messages.Message.the-variants.{Tells}
 use Rattle.frame.specs.declared.messages.Reading.the-variants.{Read, Refused}
 use Rattle.frame.proofs.Listed.{listed-module, module-handed, type-shaped, row-size, row-known, row-priority, readCommands, listed-read}
-use Rattle.frame.proofs.Numbers.{behind}
-use Rattle.frame.proofs.Judged.{reads-made, command-by-row}
+use Rattle.judging.proofs.Numbers.{behind}
+use Rattle.judging.proofs.Judged.{reads-made, command-by-row}
 use Rattle.codec.specs.Documented.{TimeIs, Documented}
 use Rattle.codec.specs.Statements.{OfRow, ReadAs, EveryFrame}
 use Rattle.codec.proofs.Shapes.{padded, Small, size, row-sized, data-again}

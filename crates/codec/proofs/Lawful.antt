@@ -11,11 +11,11 @@ use Rattle.laws.proofs.Testing.{held}
 use Rattle.frame.specs.Types.{noType, rowFor, isListed}
 use Rattle.frame.specs.Messages.{typeCommand}
 use Rattle.frame.specs.Fields.{fault}
-use Rattle.frame.specs.Reading.{ownType}
+use Rattle.judging.specs.Reading.{ownType}
 use Rattle.frame.specs.declared.bytes.Data.{Data}
 use Rattle.frame.specs.declared.messages.Command.{Command}
 use Rattle.frame.proofs.Listed.{listed-module, module-some}
-use Rattle.frame.proofs.Judged.{Listed}
+use Rattle.judging.proofs.Judged.{Listed}
 use Rattle.codec.specs.Writing.{typeFits, writeRefusal}
 
 pub record Lawful (own : ℕ) (d : Data) (m : Command) : Type 0 where

@@ -17,7 +17,7 @@ use Rattle.frame.specs.Bytes.{byte, dataOf, dataBytes}
 use Rattle.frame.specs.Messages.{typeCommand, decode}
 use Rattle.codec.specs.Encoding.{encode}
 use Rattle.frame.specs.Fields.{fault}
-use Rattle.frame.specs.Reading.{frameRefusal, ownType, commandRefusal, requestRead, commandRead, reading}
+use Rattle.judging.specs.Reading.{frameRefusal, ownType, commandRefusal, requestRead, commandRead, reading}
 use Rattle.codec.specs.Writing.{handedRefusal, writeRefusal, requestFrame, commandFrame, writtenAs, commandWritten, writing}
 use Rattle.laws.specs.Limits.{AllBytes}
 use Rattle.codec.specs.Statements.{Gives, ReadThenWritten, WrittenThenRead, OneFrame}
@@ -34,7 +34,7 @@ use Rattle.codec.specs.declared.writer.Writing.the-variants as w
 use Rattle.frame.proofs.Listed.{row-size, row-known, row-priority}
 use Rattle.codec.proofs.Shapes.{data-again, padded, back, forth, row-length}
 use Rattle.codec.proofs.Accepted.{every-request}
-use Rattle.frame.proofs.Judged.{Framed, frame-held, whole, formed-remote, formed-data, reads-made, Listed, command-held, command-holds}
+use Rattle.judging.proofs.Judged.{Framed, frame-held, whole, formed-remote, formed-data, reads-made, Listed, command-held, command-holds}
 use Rattle.codec.proofs.Lawful.{Lawful, write-held, listed-lawful}
 
 -- Answers of the two kinds are never the same.

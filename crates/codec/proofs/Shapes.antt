@@ -15,7 +15,7 @@ use Rattle.frame.specs.Types.{longType, shortType, rowFor, isListed, lastCell, 
 use Rattle.frame.specs.Messages.{locationOf, timeOf, permanent, typeCommand, decode}
 use Rattle.codec.specs.Encoding.{highOf, lowOf, secondsOf, timedBytes, encode}
 use Rattle.frame.specs.Fields.{isBlind, locationFault, cellFault, blockFault, timeAllowed, timedFault, fault}
-use Rattle.frame.specs.Reading.{ownType}
+use Rattle.judging.specs.Reading.{ownType}
 use Rattle.codec.specs.Writing.{typeFits}
 use Rattle.frame.specs.declared.bytes.Data.{Data}
 use Rattle.frame.specs.declared.messages.Location.{Location}
@@ -25,7 +25,7 @@ use Rattle.frame.specs.declared.messages.Glow.the-variants.{Off, On, Slow, Fast
 use Rattle.frame.specs.declared.messages.Command.{Command}
 use Rattle.frame.specs.declared.messages.Command.the-variants.{TypeLong, TypeShort, Buttons, CellTold, BlockTold, CellAsked, BlockAsked, DumpAsked, CellSet, BlockSet, Errors, ErrorsAsked, NameOne, NameTwo, NameThree, NameAsked, StatusAsked, InputStatus, LedsAll, Leds, BlindStatus, BlindStop, BlindUp, BlindDown}
 use Rattle.frame.proofs.Listed.{of-listed, type-shaped, readCommands, listed-read, cells-few}
-use Rattle.frame.proofs.Numbers.{behind}
+use Rattle.judging.proofs.Numbers.{behind}
 
 -- A location and a time, there and back.
 

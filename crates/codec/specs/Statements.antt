@@ -12,7 +12,7 @@ use Rattle.frame.specs.Types.{handedTypes, rowFor, isListed}
 use Rattle.frame.specs.Bytes.{byte, dataBytes}
 use Rattle.frame.specs.Messages.{typeCommand}
 use Rattle.frame.specs.Fields.{fault}
-use Rattle.frame.specs.Reading.{reading}
+use Rattle.judging.specs.Reading.{reading}
 use Rattle.codec.specs.Documented.{Documented}
 use Rattle.codec.specs.Writing.{writing}
 use Rattle.frame.specs.declared.identifiers.Address.{Address}

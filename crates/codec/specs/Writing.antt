@@ -12,7 +12,7 @@ use Rattle.frame.specs.Bytes.{dataOf}
 use Rattle.frame.specs.Messages.{typeCommand}
 use Rattle.codec.specs.Encoding.{encode}
 use Rattle.frame.specs.Fields.{fault, fieldRefusal}
-use Rattle.frame.specs.Reading.{ownType}
+use Rattle.judging.specs.Reading.{ownType}
 use Rattle.frame.specs.declared.bytes.Data.{Data}
 use Rattle.frame.specs.declared.identifiers.Address.{Address}
 use Rattle.frame.specs.declared.messages.Command.{Command}

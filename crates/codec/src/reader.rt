@@ -4,11 +4,11 @@ use frame::Message;
 use frame::Reading;
 use frame::address_of;
 use frame::gathered;
-use frame::judge;
+use judging::judge;
 ghost use mathlib.Core.Path.{_≡_};
 ghost use Rattle.frame.specs.Bytes.{dataOf, bytesOf};
 ghost use Rattle.frame.specs.Messages.{decode};
-ghost use Rattle.frame.specs.Reading.{reading};
+ghost use Rattle.judging.specs.Reading.{reading};
 
 // The message of a frame with data.
 fn command_told(data: &[u8]) -> Message

@@ -18,7 +18,7 @@ use laws::wide32;
 ghost use mathlib.Core.Path.{_≡_};
 ghost use Prim.Native.Nat.{_≤_};
 ghost use Rattle.frame.specs.Identifiers.{identifierOf};
-ghost use Rattle.frame.specs.Reading.{ownType};
+ghost use Rattle.judging.specs.Reading.{ownType};
 ghost use Rattle.codec.specs.Writing.{handedRefusal, typeFits, writeRefusal, requestFrame, commandFrame, writtenAs, commandWritten, writing};
 
 pub struct Frame {

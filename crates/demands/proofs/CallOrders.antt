@@ -13,7 +13,7 @@ use Rattle.laws.specs.Tests.{among, unless}
 use Rattle.laws.specs.Answers as numbers
 use Rattle.laws.specs.Copies.{copiedIn}
 use Rattle.frame.specs.Types.{handedTypes}
-use Rattle.frame.specs.Reading.{reading}
+use Rattle.judging.specs.Reading.{reading}
 use Rattle.codec.specs.Writing.{writing}
 use Rattle.frame.specs.declared.messages.Reading.{Reading}
 use Rattle.frame.specs.declared.messages.Reading.the-variants as reader

@@ -4,7 +4,7 @@ use mathlib.Core.List.{reverse}
 use Rattle.laws.specs.Tab.{tab}
 use Rattle.frame.specs.Types.{lineOf, rowsOf, extentOf, positionIn, nameOf}
 use Rattle.frame.specs.Fields.{buttonsAllowed, askedAllowed}
-use Rattle.frame.specs.Reading.{reading, commandRead, requestRead}
+use Rattle.judging.specs.Reading.{reading, commandRead, requestRead}
 use Rattle.places.specs.Places.{cellAsked, ledAsked, hasName}
 use Rattle.places.specs.Runs.{saidFrom, glowBy, meaningOf, meant, readAs}
 use Rattle.history.specs.Standing.{sense, meaning, typed, typeOf, after, gave, latest, more, listed, judged, judgement, outcomeOf, stands, butLatest, struck, counted, standing, kept, granted, answered}

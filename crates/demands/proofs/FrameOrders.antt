@@ -19,7 +19,7 @@ use Rattle.frame.specs.Bytes.{byte, dataOf}
 use Rattle.frame.specs.Messages.{typeCommand}
 use Rattle.codec.specs.Encoding.{encode}
 use Rattle.frame.specs.Fields.{fault}
-use Rattle.frame.specs.Reading.{rowRefusal, reading, requestRead, commandRead}
+use Rattle.judging.specs.Reading.{rowRefusal, reading, requestRead, commandRead}
 use Rattle.codec.specs.Writing.{handedRefusal, writeRefusal, commandFrame, writing, commandWritten, writtenAs}
 use Rattle.frame.specs.declared.identifiers.Address.{Address}
 use Rattle.frame.specs.declared.messages.Command.{Command}

@@ -9,7 +9,7 @@ use Rattle.laws.specs.Refusals.{noRoom, nothingKept, noSuchPlace, tooShort}
 use Rattle.frame.specs.Types.{longType, rowFor}
 use Rattle.frame.specs.Bytes.{byte}
 use Rattle.frame.specs.Messages.{typeCommand}
-use Rattle.frame.specs.Reading.{reading}
+use Rattle.judging.specs.Reading.{reading}
 use Rattle.frame.specs.declared.messages.Command.the-variants.{TypeLong, TypeShort}
 use Rattle.frame.specs.declared.messages.Reading.{Reading}
 use Rattle.places.specs.declared.answers.Outcome.{Outcome}

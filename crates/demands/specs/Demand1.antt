@@ -8,7 +8,7 @@ use mathlib.Core.List.{List, [], _∷_}
 use lib.ListN.{length}
 use Rattle.laws.specs.Answers as numbers
 use Rattle.laws.specs.Refusals.{codeAt}
-use Rattle.frame.specs.Reading.{reading, readingNumbers}
+use Rattle.judging.specs.Reading.{reading, readingNumbers}
 use Rattle.codec.specs.Writing.{writing, writingNumbers}
 use Rattle.frame.specs.declared.identifiers.Address.{Address}
 use Rattle.frame.specs.declared.messages.Message.{Message}

@@ -3,7 +3,7 @@
 use Prim.Native.Nat.{ℕ, _<_}
 use mathlib.Core.Path.{_≡_}
 use Rattle.frame.specs.Bytes.{dataBytes}
-use Rattle.frame.specs.Reading.{reading}
+use Rattle.judging.specs.Reading.{reading}
 use Rattle.codec.specs.Writing.{writing}
 use Rattle.codec.specs.Statements.{ReadThenWritten, WrittenThenRead, OneFrame, EveryFrame, EveryRow, EveryRequest}
 use Rattle.repair.specs.Beyond.{FirstBeyondRepair}

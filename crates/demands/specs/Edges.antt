@@ -6,7 +6,7 @@ use mathlib.Core.List.{List, [], _∷_, map, reverse}
 use lib.ListN.{length, replicate}
 use Rattle.laws.specs.Refusals.{badIdentifier, sid0Set, badForm, badPriority, wrongPriority, badField, codeAt, nothingKept, notWhole, badNumber}
 use Rattle.frame.specs.Identifiers.{priorityOf, addressOf}
-use Rattle.frame.specs.Reading.{reading}
+use Rattle.judging.specs.Reading.{reading}
 use Rattle.frame.specs.declared.identifiers.Address.{Address}
 use Rattle.frame.specs.declared.messages.Time.the-variants.{DipSwitch, Permanently, Seconds}
 use Rattle.frame.specs.declared.messages.Command.{Command}

@@ -4,4 +4,3 @@ pub mod Bytes
 pub mod Types
 pub mod Messages
 pub mod Fields
-pub mod Reading

@@ -10,7 +10,7 @@ use lib.Dec.{eqb, ltb}
 use lib.ListN.{length, getD, set, take, length-take}
 use lib.Seq.{set-set, set-getD, getD-set-same}
 use Rattle.laws.specs.Refusals.{noRoom}
-use Rattle.frame.specs.Reading.{reading}
+use Rattle.judging.specs.Reading.{reading}
 use Rattle.places.specs.Limits.{room, mostPlaces}
 use Rattle.places.specs.Places.{places}
 use Rattle.places.specs.Runs.{Run, Saying, Meaning, refuses, names, enters, readAs}

@@ -4,7 +4,7 @@ use mathlib.Core.Path.{refl, ap}
 use mathlib.Core.List.{[], reverse}
 use Rattle.laws.specs.Tab.{tab}
 use Rattle.frame.specs.Types.{lineOf, rowsOf, extentOf}
-use Rattle.frame.specs.Reading.{reading, commandRead, requestRead}
+use Rattle.judging.specs.Reading.{reading, commandRead, requestRead}
 use Rattle.places.specs.Places.{cellAsked, ledAsked, blindAsked}
 use Rattle.places.specs.Runs.{saidFrom, meaningOf, meant, readAs}
 use Rattle.questions.specs.Question.{Reply}

@@ -8,7 +8,7 @@ use lib.ListN.{length}
 use Rattle.laws.specs.Refusals.{noRoom}
 use Rattle.frame.specs.Identifiers.{addressOf}
 use Rattle.frame.specs.Types.{noType}
-use Rattle.frame.specs.Reading.{reading}
+use Rattle.judging.specs.Reading.{reading}
 use Rattle.frame.specs.declared.messages.Command.{Command}
 use Rattle.frame.specs.declared.messages.Message.the-variants as message
 use Rattle.frame.specs.declared.messages.Reading.the-variants.{Read}

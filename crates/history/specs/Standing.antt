@@ -8,7 +8,7 @@ use lib.Dec.{eqb, ltb}
 use Rattle.laws.specs.Refusals.{noRoom, nothingKept}
 use Rattle.frame.specs.Identifiers.{addressOf}
 use Rattle.frame.specs.Types.{noType}
-use Rattle.frame.specs.Reading.{reading}
+use Rattle.judging.specs.Reading.{reading}
 use Rattle.places.specs.declared.answers.Outcome.{Outcome}
 use Rattle.places.specs.declared.answers.Outcome.the-variants as outcome
 use Rattle.places.specs.Runs.{Saying, silent, asks, tells, said, Meaning, refuses, names, enters, readAs}

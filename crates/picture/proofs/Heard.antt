@@ -22,11 +22,11 @@ use Rattle.frame.specs.Identifiers.{addressOf}
 use Rattle.frame.specs.Types.{noType, rowFor, isListed}
 use Rattle.frame.specs.Bytes.{byte, dataOf}
 use Rattle.frame.specs.Messages.{typeCommand, typeFrame}
-use Rattle.frame.specs.Reading.{reading, readingNumber}
+use Rattle.judging.specs.Reading.{reading, readingNumber}
 use Rattle.frame.specs.declared.identifiers.Address.{Address}
 use Rattle.frame.specs.declared.messages.Message.the-variants.{Tells}
 use Rattle.frame.specs.declared.messages.Reading.the-variants.{Read}
-use Rattle.frame.proofs.Numbers.{refused-as, accepted-as}
+use Rattle.judging.proofs.Numbers.{refused-as, accepted-as}
 use Rattle.frame.proofs.Listed.{listed-module, type-sized}
 use Rattle.places.specs.declared.answers.Outcome.{Outcome}
 use Rattle.places.specs.Limits.{room, busAddress}

@@ -5,7 +5,7 @@ use mathlib.Core.List.{List, [], _∷_}
 use lib.Dec.{eqb, ltb}
 use lib.ListN.{set}
 use Rattle.laws.specs.Refusals.{noRoom, tooShort}
-use Rattle.frame.specs.Reading.{reading}
+use Rattle.judging.specs.Reading.{reading}
 use Rattle.places.specs.Limits.{room, busAddress}
 use Rattle.places.specs.Places.{places}
 use Rattle.places.specs.Runs.{Saying, Run, Meaning, refuses, names, enters, readAs}

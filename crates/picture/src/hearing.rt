@@ -124,7 +124,7 @@ fn hear_listed(picture: &mut [u8], slot: u8, identifier: u32, remote: u32, data:
     ensures { λ _. ⌜ now (picture .exit) ≡ hearingAt (now (picture .entry)) slot identifier remote (now («data» .entry)) .buffer ⌝ }
 {
     let kind = kind_in(picture, slot);
-    let number = frame::refusal(wide32(kind), identifier, remote, data);
+    let number = judging::refusal(wide32(kind), identifier, remote, data);
     if number != 0 {
         return Outcome::Refused(number);
     }
@@ -146,7 +146,7 @@ fn hear_unlisted(picture: &mut [u8], identifier: u32, remote: u32, data: &[u8]) 
     ensures { λ r. ⌜ r ≡ hearingAt (now (picture .entry)) noSlot identifier remote (now («data» .entry)) .outcome ⌝ }
     ensures { λ _. ⌜ now (picture .exit) ≡ hearingAt (now (picture .entry)) noSlot identifier remote (now («data» .entry)) .buffer ⌝ }
 {
-    let number = frame::refusal_unlisted(identifier, remote, data);
+    let number = judging::refusal_unlisted(identifier, remote, data);
     if number != 0 {
         return Outcome::Refused(number);
     }

@@ -17,7 +17,7 @@ use Rattle.frame.specs.Types.{longType, Line, types, noLine, lineOf, rowFor, is
 use Rattle.frame.specs.Bytes.{byte, dataOf, bytesOf}
 use Rattle.frame.specs.Messages.{typeCommand, locationIn, timeIn, readers, decode}
 use Rattle.frame.specs.Fields.{locationFault, channelAllowed, isBlind, fault}
-use Rattle.frame.specs.Reading.{frameRefusal, ownType, commandRefusal, commandRead, requestRead, reading}
+use Rattle.judging.specs.Reading.{frameRefusal, ownType, commandRefusal, commandRead, requestRead, reading}
 use Rattle.frame.specs.declared.bytes.Data.{Data}
 use Rattle.frame.specs.declared.identifiers.Address.{Address}
 use Rattle.frame.specs.declared.types.Extent.{Extent}
@@ -29,7 +29,7 @@ use Rattle.frame.specs.declared.messages.Message.the-variants.{TypeRequest, Tel
 use Rattle.frame.specs.declared.messages.Reading.{Reading}
 use Rattle.frame.specs.declared.messages.Reading.the-variants.{Read, Refused}
 use Rattle.laws.proofs.Keys.{every}
-use Rattle.frame.proofs.Judged.{command-held}
+use Rattle.judging.proofs.Judged.{command-held}
 use Rattle.frame.proofs.Listed.{of-line, of-listed}
 use Rattle.places.specs.Limits.{mostPlaces}
 use Rattle.places.specs.Places.{places, ledPlace, blindPlace, characterPlace, cellPlace}

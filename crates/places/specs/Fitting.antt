@@ -3,7 +3,7 @@ use Prim.Native.Nat.{ℕ, _+_, _*_, _≤_}
 use mathlib.Core.List.{List}
 use lib.ListN.{length}
 use Rattle.frame.specs.Types.{extentOf}
-use Rattle.frame.specs.Reading.{reading}
+use Rattle.judging.specs.Reading.{reading}
 use Rattle.places.specs.Limits.{mostPlaces}
 use Rattle.places.specs.Places.{places, weekPlace, ledPlace, blindPlace, nameLength, characterPlace, cellPlace}
 use Rattle.places.specs.Runs.{Run, Meaning, refuses, names, enters, readAs}

@@ -19,7 +19,7 @@ use Rattle.frame.specs.Types.{moduleTypes, rowFor, lastCell, lastStart}
 use Rattle.frame.specs.Bytes.{byte, dataOf}
 use Rattle.frame.specs.Messages.{locationOf, timeOf, typeCommand, decode}
 use Rattle.frame.specs.Fields.{locationFault, timeAllowed, timedFault, isBlind, fault, fieldRefusal}
-use Rattle.frame.specs.Reading.{ownType, reading, readingNumber}
+use Rattle.judging.specs.Reading.{ownType, reading, readingNumber}
 use Rattle.frame.proofs.Listed.{listed-module, module-some, module-handed}
 use Rattle.codec.specs.Encoding.{highOf, lowOf, secondsOf, encode}
 use Rattle.codec.specs.Statements.{OfRow}

@@ -12,7 +12,7 @@ use Rattle.frame.specs.Identifiers.{identifierOf}
 use Rattle.frame.specs.Types.{rowFor}
 use Rattle.frame.specs.Bytes.{byte}
 use Rattle.frame.specs.Fields.{timeAllowed}
-use Rattle.frame.specs.Reading.{reading, readingNumber}
+use Rattle.judging.specs.Reading.{reading, readingNumber}
 use Rattle.codec.specs.Encoding.{encode}
 use Rattle.codec.specs.Statements.{OfRow}
 use Rattle.codec.specs.Writing.{writing, writingNumbers}

@@ -18,7 +18,7 @@ use Rattle.frame.specs.Bytes.{dataOf}
 use Rattle.frame.specs.Messages.{typeCommand}
 use Rattle.codec.specs.Encoding.{encode}
 use Rattle.frame.specs.Fields.{isBlind, timeAllowed, timedFault, fault}
-use Rattle.frame.specs.Reading.{ownType, reading}
+use Rattle.judging.specs.Reading.{ownType, reading}
 use Rattle.codec.specs.Writing.{typeFits, writing}
 use Rattle.frame.specs.declared.types.Row.{Row}
 use Rattle.frame.specs.declared.identifiers.Address.{Address}

@@ -8,7 +8,7 @@ use Rattle.laws.specs.Refusals.{notListed, tooShort}
 use Rattle.laws.specs.Answers.{unlessRefusal}
 use Rattle.laws.specs.Copies.{copiedIn}
 use Rattle.frame.specs.Bytes.{bytesOf}
-use Rattle.frame.specs.Reading.{readingNumbers}
+use Rattle.judging.specs.Reading.{readingNumbers}
 use Rattle.codec.specs.Writing.{handedRefusal, writing, writingNumbers}
 use Rattle.frame.specs.declared.messages.Reading.{Reading}
 use Rattle.frame.specs.declared.messages.Reading.the-variants as r

@@ -6,7 +6,7 @@ use lib.ListN.{length}
 use Rattle.laws.specs.Limits.{AllBytes}
 use Rattle.laws.specs.Copies.{copiedIn}
 use Rattle.frame.specs.Bytes.{dataBytes}
-use Rattle.frame.specs.Reading.{reading}
+use Rattle.judging.specs.Reading.{reading}
 use Rattle.codec.specs.Writing.{writing}
 use Rattle.frame.specs.declared.messages.Reading.the-variants.{Read}
 use Rattle.codec.specs.declared.writer.Frame.{Frame}

@@ -17,7 +17,7 @@ use laws::TOO_SHORT;
 use laws::copy_in;
 ghost use mathlib.Core.Path.{_≡_};
 ghost use lib.ListN.{length};
-ghost use Rattle.frame.specs.Reading.{reading};
+ghost use Rattle.judging.specs.Reading.{reading};
 ghost use Rattle.codec.specs.Writing.{writing};
 ghost use Rattle.laws.specs.Copies.{copiedIn};
 ghost use Rattle.velbus.specs.Words.{roomWord};

@@ -1,7 +1,7 @@
 -- `codec::reader::read` meets its contract.
 -- Assumes nothing.
 use native.Mathlib.Omega.{arith}
-use Rattle.frame.proofs.Numbers.{refused-as, read-request, read-told}
+use Rattle.judging.proofs.Numbers.{refused-as, read-request, read-told}
 use borrow.Author.Needs.{needs}
 use Rattle.codec.proofs.reader.read.Statement.{statement}
 use Rattle.codec.proofs.reader.read.Tie as tie
