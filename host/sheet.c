@@ -7,7 +7,8 @@
  *     654 0 FF 0A 12 34 01 0C 05
  *
  * Empty lines and lines that begin with # are passed over; a FILE of - is standard input. Refusals are told in words, on standard
- * error. Whatever was not heard is shown as `not heard`, or as `--` among cells that were, and never as a value. */
+ * error. Whatever was not heard is shown as `not heard`, or as `--` among cells that were and as a dot in mid-line among the characters of a name
+ * that were, which is no character of a name; never as a value. */
 #include "velbus.h"
 
 #include <ctype.h>
@@ -20,8 +21,11 @@ enum {
     LONGEST_LINE = 256,                 /* characters of a line of the file, with its end */
     MOST_BYTES = 2 * VELBUS_DATA_SIZE,  /* of a line; more than a frame has, so that the library is the one to refuse them */
     CELLS_IN_LINE = 16,                 /* of the sheet */
+    NAME_END = 0xFF,                    /* fills a name that is shorter than it could be */
     DEPTH = 16                          /* of the way back */
 };
+
+#define MARK "\xC2\xB7"              /* a character that was not heard: a dot in mid-line, in UTF-8, as no single byte is shown */
 
 static uint8_t picture[VELBUS_PICTURE_SIZE];
 
@@ -43,7 +47,6 @@ static const char *refusal_text(uint32_t number)
         [VELBUS_NOTHING_KEPT] = "no step back is kept",
         [VELBUS_NO_SUCH_PLACE] = "no such cell, name, LED or blind on this type, or no such depth",
         [VELBUS_TOO_SHORT] = "buffer too short, or a place beyond its end",
-        [VELBUS_NAME_NOT_WHOLE] = "name not whole",
         [VELBUS_CUT_OFF] = "recording ends inside a record",
         [VELBUS_BAD_NUMBER] = "recording number too long, too large or not shortest",
         [VELBUS_SID0] = "SID0 is set",
@@ -137,32 +140,37 @@ static void print_number(const char *name, uint32_t word)
         printf("%s %u", name, velbus_value(word));
 }
 
-static void print_name(uint32_t address, uint32_t name, unsigned characters_heard)
+/* A number of a row, or VELBUS_UNKNOWN. */
+static unsigned number_of(const uint8_t *row, uint32_t i)
 {
-    uint8_t text[VELBUS_NAME_SIZE];
-    if (characters_heard == 0) {
-        printf("not heard\n");
-    } else if (characters_heard < VELBUS_NAME_SIZE) {
-        printf("not whole: %u of %u characters heard\n", characters_heard, VELBUS_NAME_SIZE);
-    } else {
-        if (!refused("name", velbus_name(picture, sizeof picture, address, name, text, sizeof text)))
-            for (unsigned i = 0; i < VELBUS_NAME_SIZE && text[i] != 0xFF; i++)
-                putchar(isprint(text[i]) ? text[i] : '?');
-        putchar('\n');
+    return row[2 * i] | (unsigned)row[2 * i + 1] << 8;
+}
+
+/* The characters that were heard, but those that fill a name's end, and a mark for each of the others. */
+static void print_name(const uint8_t *row, unsigned heard)
+{
+    for (uint32_t i = 0; i < VELBUS_NAME_LENGTH; i++) {
+        unsigned c = number_of(row, i);
+        if (c == VELBUS_UNKNOWN)
+            printf(MARK);
+        else if (c != NAME_END)
+            putchar(isprint((int)c) ? (int)c : '?');
     }
+    if (heard < VELBUS_NAME_LENGTH)
+        printf("  %u of %u heard, " MARK " not heard", heard, VELBUS_NAME_LENGTH);
+    putchar('\n');
 }
 
 static void print_names(uint32_t address)
 {
-    uint8_t heard[VELBUS_NAME_SIZE];
-    for (uint32_t name = 1;; name++) {
-        unsigned count = 0;
-        if (past_last("name", velbus_name_heard(picture, sizeof picture, address, name, heard, sizeof heard)))
-            return;
-        for (unsigned i = 0; i < VELBUS_NAME_SIZE; i++)
-            count += heard[i];
+    uint8_t row[VELBUS_NAME_SIZE];
+    uint32_t word;
+    for (uint32_t name = 1; !past_last("name", word = velbus_name(picture, sizeof picture, address, name, row, sizeof row)); name++) {
         printf("name %u   ", name);
-        print_name(address, name, count);
+        if (velbus_value(word) == 0)
+            printf("not heard\n");
+        else
+            print_name(row, velbus_value(word));
     }
 }
 
@@ -178,17 +186,11 @@ static void print_states(uint32_t address)
         printf("blind %u  %s\n", n, velbus_value(word) == VELBUS_UNKNOWN ? "not heard" : blinds[velbus_value(word)]);
 }
 
-/* A cell of a memory row, or VELBUS_UNKNOWN. */
-static unsigned cell_of(const uint8_t *row, uint32_t location)
-{
-    return row[2 * location] | (unsigned)row[2 * location + 1] << 8;
-}
-
 static uint32_t heard_from(const uint8_t *row, uint32_t start, uint32_t end)
 {
     uint32_t heard = 0;
     for (uint32_t i = start; i < end; i++)
-        heard += cell_of(row, i) != VELBUS_UNKNOWN;
+        heard += number_of(row, i) != VELBUS_UNKNOWN;
     return heard;
 }
 
@@ -204,10 +206,10 @@ static uint32_t print_line(const uint8_t *row, uint32_t start, uint32_t cells)
     }
     printf("  %02X ", start);
     for (uint32_t i = start; i < start + CELLS_IN_LINE; i++)
-        if (cell_of(row, i) == VELBUS_UNKNOWN)
+        if (number_of(row, i) == VELBUS_UNKNOWN)
             printf(" --");
         else
-            printf(" %02X", cell_of(row, i));
+            printf(" %02X", number_of(row, i));
     putchar('\n');
     return start + CELLS_IN_LINE;
 }

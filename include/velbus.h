@@ -22,7 +22,7 @@
 extern "C" {
 #endif
 
-#define VELBUS_VERSION "2.0.0"    /* velbus.pc takes it from here */
+#define VELBUS_VERSION "3.0.0"    /* velbus.pc takes it from here */
 
 /* ---- refusal numbers ---- */
 #define VELBUS_BAD_IDENTIFIER 1   /* identifier above 2047 */
@@ -38,7 +38,7 @@ extern "C" {
 #define VELBUS_NOTHING_KEPT 11    /* a step back with none kept */
 #define VELBUS_NO_SUCH_PLACE 12   /* the type has no such cell, name, LED or blind; or no way back is so deep */
 #define VELBUS_TOO_SHORT 13       /* a buffer is too short, or a place lies beyond its end */
-#define VELBUS_NAME_NOT_WHOLE 14  /* a character of the name was not heard */
+/* 14 is withdrawn: no call gives it */
 #define VELBUS_CUT_OFF 15         /* the recording ends inside a record */
 #define VELBUS_BAD_NUMBER 16      /* a number of a recording is too long, too large or not shortest */
 #define VELBUS_SID0 17            /* SID0, the lowest bit of the identifier, is 1 */
@@ -59,7 +59,8 @@ enum { VELBUS_BLIND_OFF = 0, VELBUS_BLIND_UP = 1, VELBUS_BLIND_DOWN = 2 };
 #define VELBUS_MESSAGE_SIZE 20    /* bytes of a message */
 #define VELBUS_FRAME_SIZE 12      /* bytes of a written frame */
 #define VELBUS_DATA_SIZE 8        /* the most data bytes of a frame */
-#define VELBUS_NAME_SIZE 16       /* characters of a name */
+#define VELBUS_NAME_LENGTH 16     /* characters of a name */
+#define VELBUS_NAME_SIZE 32       /* bytes that velbus_name fills, two for each character */
 #define VELBUS_LISTED_SIZE 256    /* bytes that velbus_listed fills, one for each address */
 #define VELBUS_ROW_SIZE 512       /* the most bytes that velbus_memory_row fills, for the type with the most cells */
 
@@ -166,11 +167,8 @@ uint32_t velbus_led(const uint8_t *picture, size_t picture_len, uint32_t address
 /* A blind, from 1: VELBUS_BLIND_OFF, _UP, _DOWN, or VELBUS_UNKNOWN. Refuses 5, 12. */
 uint32_t velbus_blind(const uint8_t *picture, size_t picture_len, uint32_t address, uint32_t blind);
 
-/* Which characters of a name, from 1, were heard: VELBUS_NAME_SIZE bytes into out, 1 or 0. Refuses 5, 12, 13. */
-uint32_t velbus_name_heard(const uint8_t *picture, size_t picture_len, uint32_t address, uint32_t name, uint8_t *out,
-                           size_t out_len);
-
-/* A whole name, from 1: its VELBUS_NAME_SIZE bytes into out. Refuses 5, 12, 13, and 14 where a character was not heard. */
+/* The characters of a name, from 1, two bytes each, low byte first: 0 to 255, or VELBUS_UNKNOWN. Value: how many of them were heard; the name
+ * is whole exactly if that is VELBUS_NAME_LENGTH. Refuses 5, 12, 13. */
 uint32_t velbus_name(const uint8_t *picture, size_t picture_len, uint32_t address, uint32_t name, uint8_t *out,
                      size_t out_len);
 

@@ -192,21 +192,17 @@ void check_name(uint32_t address, uint32_t name, size_t length)
 {
     const struct ref_module *m = ref_module_at(&reference, address);
     unsigned refusal = first(no_place(m, name, 1, m ? ref_names(m->type) : 0), too_short(length, VELBUS_NAME_SIZE));
-    uint8_t heard[VELBUS_NAME_SIZE] = {0}, whole[VELBUS_NAME_SIZE] = {0};
-    unsigned missing = 0;
-    for (unsigned i = 0; !refusal && i < VELBUS_NAME_SIZE; i++) {
+    uint8_t laid[VELBUS_NAME_SIZE] = {0};
+    uint32_t heard = 0;
+    for (unsigned i = 0; !refusal && i < VELBUS_NAME_LENGTH; i++) {
         int c = m->character[name - 1][i];
-        heard[i] = c != REF_UNKNOWN;
-        whole[i] = (uint8_t)c;
-        missing = heard[i] ? missing : VELBUS_NAME_NOT_WHOLE;
+        heard += c != REF_UNKNOWN;
+        laid[2 * i] = (uint8_t)c;
+        laid[2 * i + 1] = (uint8_t)(c >> 8);
     }
     set_out(length);
-    same("heard characters", velbus_name_heard(picture.start, picture.length, address, name, out.start, length), refused(refusal));
-    same_out("heard characters", refusal, heard, sizeof heard);
-    refusal = first(refusal, missing);
-    set_out(length);
-    same("name", velbus_name(picture.start, picture.length, address, name, out.start, length), refused(refusal));
-    same_out("name", refusal, whole, sizeof whole);
+    same("name", velbus_name(picture.start, picture.length, address, name, out.start, length), answer(refusal, heard));
+    same_out("name", refusal, laid, sizeof laid);
 }
 
 void check_row(uint32_t address, size_t length)

@@ -54,7 +54,6 @@ static void picture_of(size_t n)
     same("LED by length", velbus_led(p, n, ADDRESS, 1), asked);
     same("blind by length", velbus_blind(p, n, ADDRESS, 1), asked);
     same("name by length", velbus_name(p, n, ADDRESS, 1, out.start, out.length), asked);
-    same("heard characters by length", velbus_name_heard(p, n, ADDRESS, 1, out.start, out.length), asked);
     same("memory row by length", velbus_memory_row(p, n, ADDRESS, out.start, out.length), asked);
     same("step back by length", velbus_step_back(picture.start, n), back);
     same("fresh with too great a depth by length", velbus_fresh_depth(picture.start, n, REF_DEPTH + 1), word ? word : refused(VELBUS_NO_SUCH_PLACE));

@@ -27,7 +27,6 @@ static void questions(uint32_t address)
     velbus_led(p, n, address, draw(10));
     velbus_blind(p, n, address, draw(4));
     velbus_name(p, n, address, draw(10), out.start, out.length);
-    velbus_name_heard(p, n, address, draw(10), out.start, out.length);
     velbus_memory_row(p, n, address, out.start, out.length);
     velbus_listed(p, n, out.start, out.length);
 }

@@ -15,7 +15,9 @@ use Rattle.history.proofs.Depth.{depths-named, kept-to-depth, none-at-zero}
 use Rattle.history.proofs.Sentence.{sentence, sentence-decides}
 use Rattle.history.proofs.ModulesListed.{in-order, listed-is}
 use Rattle.history.proofs.Effects.{back-over, room-used-again}
-use Rattle.questions.proofs.RowBytes.{row-is-bytes}
+use Rattle.questions.proofs.RowBytes.{rows-are-bytes}
+use Rattle.questions.proofs.Counts.{count-is-of-row}
+use Rattle.history.proofs.Names.{whole-is-sixteen}
 use Rattle.recording.specs.declared.records.Entry.{Entry}
 use Rattle.recording.specs.declared.records.Entry.the-variants.{Record, End, Broken}
 use Rattle.recording.specs.Record.{readRecord}
@@ -107,7 +109,9 @@ pub demand-3 : Demand3
 demand-3 =
     record {
       shows-standing = shows-standing;
-      row-is-bytes = row-is-bytes;
+      whole-is-sixteen = whole-is-sixteen;
+      count-is-of-row = count-is-of-row;
+      rows-are-bytes = rows-are-bytes;
       sentence = sentence;
       sentence-decides = sentence-decides;
       in-order = in-order;

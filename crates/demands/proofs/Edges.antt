@@ -8,7 +8,7 @@ use Rattle.judging.specs.Reading.{reading, commandRead, requestRead}
 use Rattle.places.specs.Places.{cellAsked, ledAsked, hasName}
 use Rattle.places.specs.Runs.{saidFrom, glowBy, meaningOf, meant, readAs}
 use Rattle.history.specs.Standing.{sense, meaning, typed, typeOf, after, gave, latest, more, listed, judged, judgement, outcomeOf, stands, butLatest, struck, counted, standing, kept, granted, answered}
-use Rattle.history.specs.Asked.{allHeard, toldName, toldAs, toldReply}
+use Rattle.history.specs.Asked.{countTold, overRow, toldAs, toldReply}
 use Rattle.history.specs.Cases.{example}
 use Rattle.history.proofs.Demand3.{demand-3}
 use Rattle.numbers.specs.Number.{numberBytes, readNumber}
@@ -16,7 +16,7 @@ use Rattle.recording.specs.Record.{readWithin}
 use Rattle.demands.specs.Edges.{EdgesHold, EdgesOnBytes}
 
 pub edges-hold : EdgesHold
-unfolding tab lineOf rowsOf extentOf positionIn nameOf buttonsAllowed askedAllowed reading commandRead requestRead cellAsked ledAsked hasName saidFrom glowBy meaningOf meant readAs sense meaning typed typeOf after gave latest more listed judged judgement outcomeOf stands butLatest struck counted standing kept granted answered allHeard toldName toldAs toldReply numberBytes readNumber readWithin
+unfolding tab lineOf rowsOf extentOf positionIn nameOf buttonsAllowed askedAllowed reading commandRead requestRead cellAsked ledAsked hasName saidFrom glowBy meaningOf meant readAs sense meaning typed typeOf after gave latest more listed judged judgement outcomeOf stands butLatest struck counted standing kept granted answered countTold overRow toldAs toldReply numberBytes readNumber readWithin
 edges-hold = refl
 
 pub edges-on-bytes : EdgesOnBytes

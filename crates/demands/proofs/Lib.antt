@@ -6,6 +6,7 @@ pub mod QuestionOrders
 pub mod CallOrders
 pub mod ReplayOrders
 pub mod Demand1
+pub mod Withdrawn
 pub mod Determined
 pub mod Demand2
 pub mod Demand3

@@ -5,24 +5,24 @@ use mathlib.Core.Bool.{Bool, true, false, _&&_, cond}
 use mathlib.Core.List.{List, [], _∷_}
 use lib.Dec.{eqb, ltb, leb}
 use lib.ListN.{length, getD}
-use Rattle.laws.specs.Refusals.{typeNotKnown, noSuchPlace, tooShort, notWhole}
+use Rattle.laws.specs.Refusals.{typeNotKnown, noSuchPlace, tooShort}
 use Rattle.frame.specs.Types.{extentOf}
 use Rattle.places.specs.declared.answers.Answer.the-variants.{Value, NotHeard, Refused}
 use Rattle.places.specs.Limits.{room, addresses}
 use Rattle.places.specs.Places.{places, nameLength, yearPlace, weekPlace, cellAsked, ledAsked, blindAsked, hasName, nameRow, cellRow}
 use Rattle.places.specs.Layout.{placeAt}
 use Rattle.places.specs.Head.{short, kindIn}
-use Rattle.questions.specs.Question.{Question, type-of, build-year, build-week, cell, led, blind, name-heard, whole-name, memory-row, memory-bytes, answering}
-use Rattle.questions.specs.Fills.{filledTo, filling, valueAt, rowNumber, lowFirst, numbersFill, bytesFill}
-use Rattle.questions.specs.Replies.{slotAsked, answerAt, placeReply, characterHeard, sumTo, heardReply, nameReply, replyAs, replyIn, reply, keptAnswer, listedIf, listing}
+use Rattle.questions.specs.Question.{Question, type-of, build-year, build-week, cell, led, blind, name-row, name-bytes, memory-row, memory-bytes, answering}
+use Rattle.questions.specs.Fills.{filledTo, filling, valueAt, rowNumber, lowFirst, numbersFill, bytesFill, heardIn}
+use Rattle.questions.specs.Replies.{slotAsked, answerAt, placeReply, replyAs, replyIn, reply, keptAnswer, listedIf, listing}
 use Rattle.demands.specs.Order.{answers, verdict, pictureTest, rowTest, listedOrder, placeTest, questionTests, questionOrder}
 use Rattle.demands.specs.Demand1.{ofAnswer, Replied, Questions}
 use Rattle.demands.proofs.Orders.{answers-refuses, reply-test, reply-fault, reply-done, answer-fault}
 
 -- a row of n numbers
-fills : (f : ℕ → ℕ) (n : ℕ) (out : List ℕ) → Replied (rowTest n out ∷ []) out (filling f n out)
+fills : (v : ℕ) (f : ℕ → ℕ) (n : ℕ) (out : List ℕ) → Replied (rowTest n out ∷ []) out (filling v f n out)
 unfolding filling
-fills f n out = reply-test out tooShort [] _ (leb n (length out)) (reply-done out 0 (filledTo f out n))
+fills v f n out = reply-test out tooShort [] _ (leb n (length out)) (reply-done out v (filledTo f out n))
 
 kept-order : (b : List ℕ) → ofAnswer (keptAnswer b) ≡ verdict (pictureTest b ∷ [])
 unfolding keptAnswer
@@ -30,7 +30,7 @@ kept-order b = answer-fault ofAnswer tooShort [] _ (Refused tooShort) refl refl 
 
 listed-order : (b out : List ℕ) → Replied (listedOrder b out) out (listing b out)
 unfolding listing
-listed-order b out = reply-fault out tooShort _ _ (short b) (fills (listedIf b) addresses out)
+listed-order b out = reply-fault out tooShort _ _ (short b) (fills 0 (listedIf b) addresses out)
 
 -- a question on the module in slot s, whose type is kind
 module _ (b : List ℕ) (s kind : ℕ) (out : List ℕ) where
@@ -47,20 +47,21 @@ module _ (b : List ℕ) (s kind : ℕ) (out : List ℕ) where
   places-order p = reply-test out noSuchPlace [] _ (ltb p places) (place-answered (placeAt s p))
 
   asked-order : (q : Question) → Replied (questionTests b s kind q out) out (replyAs b s kind q out)
-  unfolding replyAs heardReply nameReply numbersFill bytesFill
+  unfolding replyAs numbersFill bytesFill
   asked-order type-of = reply-done out kind out
   asked-order build-year = places-order yearPlace
   asked-order build-week = places-order weekPlace
   asked-order (cell location) = places-order (cellAsked kind location)
   asked-order (led n) = places-order (ledAsked kind n)
   asked-order (blind n) = places-order (blindAsked kind n)
-  asked-order (name-heard n) = reply-test out noSuchPlace _ _ (hasName kind n) (fills (characterHeard b s (nameRow kind n)) nameLength out)
-  asked-order (whole-name n) =
-      reply-test out noSuchPlace _ _ (hasName kind n)
-      (reply-test out tooShort _ _ (leb nameLength (length out))
-      (reply-test out notWhole [] _ (eqb (sumTo (characterHeard b s (nameRow kind n)) nameLength) nameLength) (reply-done out 0 _)))
-  asked-order memory-row = fills (rowNumber b s (cellRow kind)) (extentOf kind .cells) out
-  asked-order memory-bytes = fills (lowFirst (rowNumber b s (cellRow kind))) (2 * extentOf kind .cells) out
+  asked-order (name-row n) =
+      let row = nameRow kind n in
+      reply-test out noSuchPlace _ _ (hasName kind n) (fills (heardIn b s row) (rowNumber b s row) nameLength out)
+  asked-order (name-bytes n) =
+      let row = nameRow kind n in
+      reply-test out noSuchPlace _ _ (hasName kind n) (fills (heardIn b s row) (lowFirst (rowNumber b s row)) (2 * nameLength) out)
+  asked-order memory-row = fills 0 (rowNumber b s (cellRow kind)) (extentOf kind .cells) out
+  asked-order memory-bytes = fills 0 (lowFirst (rowNumber b s (cellRow kind))) (2 * extentOf kind .cells) out
 
 each-order : (b : List ℕ) (a : ℕ) (q : Question) (out : List ℕ) → Replied (questionOrder b a q out) out (reply b a q out)
 unfolding reply replyIn

@@ -9,11 +9,12 @@ use Rattle.places.specs.declared.answers.Outcome.{Outcome}
 use Rattle.places.specs.declared.answers.Outcome.the-variants.{Done, Refused}
 use Rattle.places.specs.Layout.{size}
 use Rattle.history.specs.Standing.{Frame, Event, hear, back, deepest, kept}
+use Rattle.history.specs.Names.{WholeIsSixteen}
 use Rattle.history.specs.Demand3.{Demand3 as ShowsStanding, doing, runBytes, runsBytes, InOrder, ListedIs}
 use Rattle.history.specs.Depth.{DepthsNamed, KeptToDepth, NoneAtZero}
 use Rattle.history.specs.Sentence.{Sentence, SentenceDecides}
 use Rattle.history.specs.Effects.{BackOver, RoomUsedAgain}
-use Rattle.questions.specs.Statements.{RowIsBytes}
+use Rattle.questions.specs.Statements.{RowsAreBytes, CountIsOfRow}
 use Rattle.recording.specs.declared.records.Entry.{Entry}
 use Rattle.recording.specs.declared.records.Entry.the-variants.{Record, End, Broken}
 use Rattle.recording.specs.Record.{readRecord}
@@ -96,8 +97,11 @@ RecordingsHeard = (b s : List ℕ) → Replays b s
 pub record Demand3 : Type 0 where
   -- every question, and the answer to every next frame and step back
   pub shows-standing : ShowsStanding
-  -- and the memory that C copies is the row of numbers
-  pub row-is-bytes : RowIsBytes
+  -- a name is whole exactly where the count that its question gives is 16; and the count is that of the row which the question filled
+  pub whole-is-sixteen : WholeIsSixteen
+  pub count-is-of-row : CountIsOfRow
+  -- and the names and the memory that C is given are the rows of numbers
+  pub rows-are-bytes : RowsAreBytes
   -- the demand's sentence: what is known of a place is what the latest standing frame since the entry that names it gave, unknown where none does
   pub sentence : Sentence
   pub sentence-decides : SentenceDecides

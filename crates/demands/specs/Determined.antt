@@ -41,7 +41,7 @@ pub record Determined : Type 1 where
   pub fresh-with : (b : List ℕ) (depth : ℕ) → OneCall (fresheningWith b depth)
   pub hear : (b : List ℕ) (identifier remote : ℕ) (s : List ℕ) → OneCall (hearing b identifier remote s)
   pub step-back : (b : List ℕ) → OneCall (steppingBack b)
-  -- listed, and every question on an address: name_heard, name, memory_row, memory_bytes
+  -- listed, and every question on an address: name, name_bytes, memory_row, memory_bytes
   pub listed : (b out : List ℕ) → OneReply (listing b out)
   pub each : (b : List ℕ) (a : ℕ) (q : Question) (out : List ℕ) → OneReply (reply b a q out)
   -- put_record, hear_all, hear_part, put_listing

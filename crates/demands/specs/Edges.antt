@@ -2,9 +2,9 @@
 -- proofs/Edges.antt.
 use Prim.Native.Nat.{ℕ, _≤_}
 use mathlib.Core.Path.{_≡_}
-use mathlib.Core.List.{List, [], _∷_, map, reverse}
+use mathlib.Core.List.{List, [], _∷_, _++_, map, reverse}
 use lib.ListN.{length, replicate}
-use Rattle.laws.specs.Refusals.{badIdentifier, sid0Set, badForm, badPriority, wrongPriority, badField, codeAt, nothingKept, notWhole, badNumber}
+use Rattle.laws.specs.Refusals.{badIdentifier, sid0Set, badForm, badPriority, wrongPriority, badField, codeAt, nothingKept, tooShort, badNumber}
 use Rattle.frame.specs.Identifiers.{priorityOf, addressOf}
 use Rattle.judging.specs.Reading.{reading}
 use Rattle.frame.specs.declared.identifiers.Address.{Address}
@@ -19,7 +19,7 @@ use Rattle.places.specs.declared.answers.Answer.the-variants.{Value, NotHeard}
 use Rattle.places.specs.declared.answers.Outcome.{Outcome}
 use Rattle.places.specs.declared.answers.Outcome.the-variants as outcome
 use Rattle.places.specs.Layout.{size}
-use Rattle.questions.specs.Question.{Question, cell, led, whole-name, Reply, value, refusing}
+use Rattle.questions.specs.Question.{Question, cell, led, name-row, Reply, value, refusing}
 use Rattle.questions.specs.Replies.{reply}
 use Rattle.history.specs.Standing.{Event, back, deepest, outcomeOf, answered}
 use Rattle.history.specs.Demand3.{runBytes}
@@ -87,15 +87,15 @@ backAt d es o = record { given = step (outcomeOf (answered d (reverse es) back))
 abbrev pub asked : List Event → List Question → List Answer → Row
 asked = askedAt deepest
 
--- after these frames the name of a channel is asked for, into sixteen zeros
+-- after these frames the name of a channel is asked for, into a row of so many zeros
 abbrev pub channel : ℕ
 channel = 3
 
-abbrev pub zeros : List ℕ
-zeros = replicate 16 0
+abbrev pub zeros : ℕ → List ℕ
+zeros n = replicate n 0
 
-abbrev pub named : List Event → Reply → Row
-named es r = record { given = name (toldTo deepest es (whole-name channel) zeros); right = name r }
+abbrev pub named : List Event → ℕ → Reply → Row
+named es n r = record { given = name (toldTo deepest es (name-row channel) (zeros n)); right = name r }
 
 -- a number's bytes, and the same bytes read
 abbrev pub written : ℕ → List ℕ → Row
@@ -144,6 +144,9 @@ part-three = heard (0xF2 ∷ 0x04 ∷ 0x4D ∷ 0x4E ∷ 0x4F ∷ 0xFF ∷ [])
 
 abbrev pub wholeName : List ℕ
 wholeName = 0x41 ∷ 0x42 ∷ 0x43 ∷ 0x44 ∷ 0x45 ∷ 0x46 ∷ 0x47 ∷ 0x48 ∷ 0x49 ∷ 0x4A ∷ 0x4B ∷ 0x4C ∷ 0x4D ∷ 0x4E ∷ 0x4F ∷ 0xFF ∷ []
+
+abbrev pub lastFour : List ℕ
+lastFour = 256 ∷ 256 ∷ 256 ∷ 256 ∷ 256 ∷ 256 ∷ 256 ∷ 256 ∷ 256 ∷ 256 ∷ 256 ∷ 256 ∷ 0x4D ∷ 0x4E ∷ 0x4F ∷ 0xFF ∷ []
 
 -- a cell told, and asked to change
 abbrev pub told : Event
@@ -199,10 +202,13 @@ edges =
     ∷ accepts 0x03 highExample (up 0x00 0x00 0x00) (BlindUp 0x03 DipSwitch)
     ∷ accepts 0x03 highExample (up 0x00 0x00 0x01) (BlindUp 0x03 (Seconds 1))
     ∷ accepts 0x03 highExample (up 0xFF 0xFF 0xFF) (BlindUp 0x03 Permanently)
-    -- F2, F0, F1 for one channel: whole; F2 alone: 14; nothing heard: 14
-    ∷ named (ir ∷ part-three ∷ part-one ∷ part-two ∷ []) (value 0 wholeName)
-    ∷ named (ir ∷ part-three ∷ []) (refusing notWhole zeros)
-    ∷ named (ir ∷ []) (refusing notWhole zeros)
+    -- F2, F0, F1 for one channel: 16 heard, and the sixteen values; by W-209 F2 alone: 4 heard; nothing heard: 0
+    ∷ named (ir ∷ part-three ∷ part-one ∷ part-two ∷ []) 16 (value 16 wholeName)
+    ∷ named (ir ∷ part-three ∷ []) 16 (value 4 lastFour)
+    ∷ named (ir ∷ []) 16 (value 0 (replicate 16 256))
+    -- a row under sixteen: 13; an entry beyond keeps its own
+    ∷ named (ir ∷ part-three ∷ []) 15 (refusing tooShort (zeros 15))
+    ∷ named (ir ∷ part-three ∷ []) 17 (value 4 (lastFour ++ zeros 1))
     -- FE, then FC on one cell: unknown
     ∷ asked (ir ∷ told ∷ []) (cell 5 ∷ []) (Value 0x2A ∷ [])
     ∷ asked (ir ∷ told ∷ change ∷ []) (cell 5 ∷ []) (NotHeard ∷ [])

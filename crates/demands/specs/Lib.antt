@@ -1,6 +1,7 @@
--- Read in this order: the order of refusals, the three demands (that a promise leaves no choice after the first), the starred edges.
+-- Read in this order: the order of refusals, the three demands (after the first that a refusal is withdrawn, and that a promise leaves no choice), the starred edges.
 pub mod Order
 pub mod Demand1
+pub mod Withdrawn
 pub mod Determined
 pub mod Demand2
 pub mod Demand3

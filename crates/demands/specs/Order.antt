@@ -4,7 +4,7 @@ use mathlib.Core.List.{List, [], _∷_, _++_}
 use mathlib.Core.Bool.{Bool, false, not, _||_, cond}
 use lib.Dec.{eqb, ltb, leb}
 use lib.ListN.{length}
-use Rattle.laws.specs.Refusals.{badIdentifier, sid0Set, badForm, badPriority, badType, typeNotKnown, notListed, wrongLength, wrongPriority, badField, codeAt, noRoom, nothingKept, noSuchPlace, tooShort, notWhole, badNumber}
+use Rattle.laws.specs.Refusals.{badIdentifier, sid0Set, badForm, badPriority, badType, typeNotKnown, notListed, wrongLength, wrongPriority, badField, codeAt, noRoom, nothingKept, noSuchPlace, tooShort, badNumber}
 use Rattle.laws.specs.Tests.{among}
 use Rattle.frame.specs.Identifiers.{low, priorities, priorityOf, elevenBits, sid0Clear, wellFormed}
 use Rattle.frame.specs.Types.{noType, moduleTypes, handedTypes, rowFor, isListed, extentOf}
@@ -16,11 +16,11 @@ use Rattle.frame.specs.declared.messages.Command.{Command}
 use Rattle.frame.specs.declared.messages.Message.{Message}
 use Rattle.frame.specs.declared.messages.Message.the-variants.{TypeRequest, Tells}
 use Rattle.places.specs.Limits.{room, addresses, busAddress}
-use Rattle.places.specs.Places.{places, nameLength, yearPlace, weekPlace, cellAsked, ledAsked, blindAsked, hasName, nameRow}
+use Rattle.places.specs.Places.{places, nameLength, yearPlace, weekPlace, cellAsked, ledAsked, blindAsked, hasName}
 use Rattle.places.specs.Runs.{commandOf}
 use Rattle.places.specs.Head.{short, modulesOf, keptOf, slotOf, kindIn}
-use Rattle.questions.specs.Question.{Question, type-of, build-year, build-week, cell, led, blind, name-heard, whole-name, memory-row, memory-bytes}
-use Rattle.questions.specs.Replies.{slotAsked, characterHeard, sumTo}
+use Rattle.questions.specs.Question.{Question, type-of, build-year, build-week, cell, led, blind, name-row, name-bytes, memory-row, memory-bytes}
+use Rattle.questions.specs.Replies.{slotAsked}
 use Rattle.history.specs.Standing.{deepest}
 use Rattle.recording.specs.Write.{inRange, recordBytes}
 use Rattle.velbus.specs.declared.parts.Held.{Held}
@@ -143,7 +143,7 @@ hearingOrder b identifier remote s = pictureTest b ∷ frameOrder (roomTest b id
 abbrev pub backOrder : List ℕ → List Test
 backOrder b = pictureTest b ∷ not (eqb (keptOf b) 0) or nothingKept ∷ []
 
--- ---- questions: 5, 12, 13, 14
+-- ---- questions: 5, 12, 13
 -- the row of n numbers has room in the buffer
 abbrev pub rowTest : ℕ → List ℕ → Test
 rowTest n out = leb n (length out) or tooShort
@@ -167,9 +167,8 @@ questionTests b s kind build-week out = placeTest weekPlace ∷ []
 questionTests b s kind (cell location) out = placeTest (cellAsked kind location) ∷ []
 questionTests b s kind (led n) out = placeTest (ledAsked kind n) ∷ []
 questionTests b s kind (blind n) out = placeTest (blindAsked kind n) ∷ []
-questionTests b s kind (name-heard n) out = nameTest kind n ∷ rowTest nameLength out ∷ []
-questionTests b s kind (whole-name n) out =
-    nameTest kind n ∷ rowTest nameLength out ∷ eqb (sumTo (characterHeard b s (nameRow kind n)) nameLength) nameLength or notWhole ∷ []
+questionTests b s kind (name-row n) out = nameTest kind n ∷ rowTest nameLength out ∷ []
+questionTests b s kind (name-bytes n) out = nameTest kind n ∷ rowTest (2 * nameLength) out ∷ []
 questionTests b s kind memory-row out = rowTest (extentOf kind .cells) out ∷ []
 questionTests b s kind memory-bytes out = rowTest (2 * extentOf kind .cells) out ∷ []
 

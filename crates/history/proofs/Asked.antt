@@ -3,13 +3,11 @@ use Prim.Native.Nat.{ℕ, zero, suc, _+_, _*_, _/_, _%_, _<_, _≤_}
 use native.Mathlib.Omega.{arith}
 use mathlib.Core.Path.{_≡_, refl, sym, ap, _∙_}
 use mathlib.Core.Bool.{Bool, true, false, cond, _&&_}
-use mathlib.Core.Logic.{_≢_}
 use mathlib.Core.List.{List}
 use mathlib.Core.Option.{Option, none, some}
 use lib.Dec.{eqb, ltb, leb}
-use lib.ListN.{getD, length}
-use borrow.Author.Tests.{eqb-true, eqb-false, eq-eqb, ne-eqb, ltb-true, lt-ltb, leb-true}
-use Rattle.laws.specs.Refusals.{tooShort, notWhole}
+use lib.ListN.{getD}
+use borrow.Author.Tests.{ltb-true, lt-ltb, leb-true}
 use Rattle.laws.specs.Tab.{tab}
 use Rattle.laws.proofs.Tab.{getD-tab, tab-ext}
 use Rattle.frame.specs.Types.{extentOf}
@@ -20,11 +18,11 @@ use Rattle.places.specs.Places.{places, nowhere, yearPlace, weekPlace, ledPlace
 use Rattle.places.specs.Layout.{placeAt}
 use Rattle.places.specs.Head.{noSlot, slotOf, kindIn}
 use Rattle.places.proofs.Fitting.{extents-small}
-use Rattle.questions.specs.Question.{Question, type-of, build-year, build-week, cell, led, blind, name-heard, whole-name, memory-row, memory-bytes, Reply, answering, filled, refusing}
-use Rattle.questions.specs.Fills.{filledTo, valueAt, heardAt, rowNumber, lowFirst as byteOf, numbersFill, bytesFill}
-use Rattle.questions.specs.Replies.{slotAsked, placeReply, characterHeard, characterValue, sumTo, heardReply, nameReply, replyAs, replyIn, reply, listedIf, listing}
+use Rattle.questions.specs.Question.{Question, type-of, build-year, build-week, cell, led, blind, name-row, name-bytes, memory-row, memory-bytes, Reply, answering}
+use Rattle.questions.specs.Fills.{valueAt, heardAt, rowNumber, lowFirst as byteOf, numbersFill, bytesFill, sumTo, heardIn}
+use Rattle.questions.specs.Replies.{slotAsked, placeReply, replyAs, replyIn, reply, listedIf, listing}
 use Rattle.history.specs.Standing.{Frame, Known, unknown, told, typeOf, latest}
-use Rattle.history.specs.Asked.{answerOf, numberOf, heardOf, oneTo, toldIf, over, overRow, eachOf, lowFirst, andHeard, allHeard, nameSize, toldName, toldAs, toldReply, yesIf, toldListed}
+use Rattle.history.specs.Asked.{answerOf, numberOf, heardOf, oneTo, toldIf, overRow, eachOf, lowFirst, countTold, nameSize, toldAs, toldReply, yesIf, toldListed}
 use Rattle.history.specs.Demand3.{Tells}
 use Rattle.history.specs.Machine.{Module, find, slot}
 use Rattle.history.specs.Refinement.{cellOf, cellAt, moduleAt, stateOf, Good}
@@ -32,65 +30,32 @@ use Rattle.history.proofs.Modules.{none-some}
 use Rattle.history.proofs.Shows.{Shows}
 use Rattle.history.proofs.Parts.{modules-few, enough}
 use Rattle.history.proofs.Found.{slot-none, slot-some}
-use Rattle.history.proofs.Fills.{filled-over, filling-over}
+use Rattle.history.proofs.Fills.{filling-over}
 
 -- ---- the two bytes of a place that holds k
 record Holds (v t : ℕ) (k : Known) : Type 0 where
   answer : cond (eqb v 0 && eqb t 1) NotHeard (Value (v + 256 * t)) ≡ answerOf k
   number : v + 256 * t ≡ numberOf k
   heard : cond (eqb t 0) 1 0 ≡ heardOf k
-  byte : heardOf k ≡ 1 → v ≡ numberOf k
 
 cell-holds : (v t : ℕ) (k : Known) → cellOf v t ≡ some k → Holds v t k
 cell-holds v zero k e =
     let q : told v ≡ k = cc in
-    rw (← q) (record { answer = go (eqb v 0); number = omega arith; heard = refl; byte = λ h. refl })
+    rw (← q) (record { answer = go (eqb v 0); number = omega arith; heard = refl })
   where
     go : (c : Bool) → cond (c && false) NotHeard (Value (v + 0)) ≡ Value v
     go true = ap Value (omega arith)
     go false = ap Value (omega arith)
-cell-holds zero (suc zero) k e = let q : unknown ≡ k = cc in rw (← q) (record { answer = refl; number = refl; heard = refl; byte = λ h. absurd (omega arith) })
+cell-holds zero (suc zero) k e = let q : unknown ≡ k = cc in rw (← q) (record { answer = refl; number = refl; heard = refl })
 cell-holds zero (suc (suc t)) k e = absurd (none-some e)
 cell-holds (suc v) (suc t) k e = absurd (none-some e)
 
--- ---- a name is whole where the sum of what is heard is its length
-heard-few : (known : ℕ → Known) (n : ℕ) → sumTo (λ i. heardOf (known i)) n ≤ n
-unfolding sumTo
-heard-few known zero = omega arith
-heard-few known (suc n) = go (known n) (heard-few known n)
-  where
-    go : (k : Known) → sumTo (λ i. heardOf (known i)) n ≤ n → sumTo (λ i. heardOf (known i)) n + heardOf k ≤ suc n
-    go unknown h = omega arith
-    go (told v) h = omega arith
-
-heard-all : (known : ℕ → Known) (n : ℕ) → eqb (sumTo (λ i. heardOf (known i)) n) n ≡ allHeard n known
-unfolding sumTo allHeard
-heard-all known zero = refl
-heard-all known (suc n) = go (known n) (allHeard n known) (heard-all known n) (heard-few known n)
-  where
-    go : (k : Known) (w : Bool) → eqb (sumTo (λ i. heardOf (known i)) n) n ≡ w → sumTo (λ i. heardOf (known i)) n ≤ n
-        → eqb (sumTo (λ i. heardOf (known i)) n + heardOf k) (suc n) ≡ andHeard k w
-    go unknown w e h = ne-eqb (sumTo (λ i. heardOf (known i)) n + 0) (suc n) (λ q. omega arith)
-    go (told v) true e h = let q = eqb-true (sumTo (λ i. heardOf (known i)) n) n e in eq-eqb (sumTo (λ i. heardOf (known i)) n + 1) (suc n) (omega arith)
-    go (told v) false e h =
-        let q = eqb-false (sumTo (λ i. heardOf (known i)) n) n e in ne-eqb (sumTo (λ i. heardOf (known i)) n + 1) (suc n) (λ p. q (omega arith))
-
-all-each : (known : ℕ → Known) (n : ℕ) → allHeard n known ≡ true → (i : ℕ) → i < n → heardOf (known i) ≡ 1
-unfolding allHeard
-all-each known zero e i h = absurd (omega arith)
-all-each known (suc n) e i h = go (known n) refl e (eqb i n) refl (all-each known n)
-  where
-    go : (k : Known) → known n ≡ k → andHeard k (allHeard n known) ≡ true → (c : Bool) → eqb i n ≡ c
-        → (allHeard n known ≡ true → (i : ℕ) → i < n → heardOf (known i) ≡ 1) → heardOf (known i) ≡ 1
-    go unknown q e c t ih = absurd (let z : _≡_ {A = ℕ} 0 1 = cc in omega arith)
-    go (told v) q e true t ih = rw (eqb-true i n t, q)
-    go (told v) q e false t ih = let d : i ≢ n = eqb-false i n t in ih e i (omega arith)
-
--- a sum by its parts
-sum-ext : (f g : ℕ → ℕ) (n : ℕ) → ((i : ℕ) → i < n → f i ≡ g i) → sumTo f n ≡ sumTo g n
-unfolding sumTo
-sum-ext f g zero h = refl
-sum-ext f g (suc n) h = rw (sum-ext f g n (λ i l. h i (omega arith)), h n (omega arith))
+-- ---- rows
+-- a sum of what is heard counts what is told
+sum-counts : (f : ℕ → ℕ) (known : ℕ → Known) (n : ℕ) → ((i : ℕ) → i < n → f i ≡ heardOf (known i)) → sumTo f n ≡ countTold n known
+unfolding sumTo countTold
+sum-counts f known zero h = refl
+sum-counts f known (suc n) h = rw (sum-counts f known n (λ i l. h i (omega arith)), h n (omega arith))
 
 -- numbers in two bytes each, one byte at a time
 two-bytes : (n : ℕ) (f : ℕ → ℕ) → tab (2 * n) (byteOf f) ≡ lowFirst (tab n f)
@@ -127,52 +92,22 @@ module _ (b : List ℕ) (s : ℕ) (known : ℕ → Known) (cells : (p : ℕ) →
     number-told : (i : ℕ) → i < row .count → rowNumber b s row i ≡ numberOf (known (place i))
     number-told i l = ap (λ (p : ℕ). valueAt b (placeAt s p)) (at i) ∙ holds (place i) (inside i l) .number
 
-    numbers-told : (out : List ℕ) → numbersFill b s row out ≡ overRow (eachOf numberOf (row .count) (λ i. known (place i))) out
+    numbers-told : (v : ℕ) (out : List ℕ) → numbersFill v b s row out ≡ overRow v (eachOf numberOf (row .count) (λ i. known (place i))) out
     unfolding numbersFill
-    numbers-told out = filling-over (rowNumber b s row) (λ i. numberOf (known (place i))) (row .count) out number-told
+    numbers-told v out = filling-over v (rowNumber b s row) (λ i. numberOf (known (place i))) (row .count) out number-told
 
-    bytes-told : (out : List ℕ) → bytesFill b s row out ≡ overRow (lowFirst (eachOf numberOf (row .count) (λ i. known (place i)))) out
+    bytes-told : (v : ℕ) (out : List ℕ) → bytesFill v b s row out ≡ overRow v (lowFirst (eachOf numberOf (row .count) (λ i. known (place i)))) out
     unfolding bytesFill
-    bytes-told out =
-        filling-over (byteOf (rowNumber b s row)) (byteOf (λ i. numberOf (known (place i)))) (2 * row .count) out
+    bytes-told v out =
+        filling-over v (byteOf (rowNumber b s row)) (byteOf (λ i. numberOf (known (place i)))) (2 * row .count) out
         (λ j l. ap (λ (n : ℕ). cond (eqb (j % 2) 0) (n % 256) (n / 256)) (number-told (j / 2) (omega arith)))
-        ∙ ap (λ (x : List ℕ). overRow x out) (two-bytes (row .count) (λ i. numberOf (known (place i))))
+        ∙ ap (λ (x : List ℕ). overRow v x out) (two-bytes (row .count) (λ i. numberOf (known (place i))))
 
-    heard-told : (i : ℕ) → i < row .count → characterHeard b s row i ≡ heardOf (known (place i))
-    heard-told i l = ap (λ (p : ℕ). heardAt b (placeAt s p)) (at i) ∙ holds (place i) (inside i l) .heard
-
-    value-told : (i : ℕ) → i < row .count → heardOf (known (place i)) ≡ 1 → characterValue b s row i ≡ numberOf (known (place i))
-    value-told i l h = ap (λ (p : ℕ). getD b (placeAt s p) 0) (at i) ∙ holds (place i) (inside i l) .byte h
-
-  -- a name
-  module _ (start : ℕ) (place : ℕ → ℕ) (at : (i : ℕ) → start + i ≡ place i) (inside : (i : ℕ) → i < nameSize → place i < places) where
-    abbrev characters : Row
-    characters = record { start = start; count = nameSize }
-
-    abbrev name : ℕ → Known
-    name i = known (place i)
-
-    each-told : (out : List ℕ) → heardReply b s characters out ≡ overRow (eachOf heardOf nameSize name) out
-    unfolding heardReply
-    each-told out = filling-over (characterHeard b s characters) (λ i. heardOf (name i)) nameSize out (heard-told characters place at inside)
-
-    name-told : (out : List ℕ) → nameReply b s characters out ≡ toldName name out
-    unfolding nameReply toldName
-    name-told out =
-        rw (sum-ext (characterHeard b s characters) (λ i. heardOf (name i)) nameSize (heard-told characters place at inside), heard-all name nameSize)
-        (go (leb nameSize (length out)) (allHeard nameSize name) refl refl)
-      where
-        go : (c w : Bool) → leb nameSize (length out) ≡ c → allHeard nameSize name ≡ w
-            → cond c (cond w (filled (filledTo (characterValue b s characters) out nameSize)) (refusing notWhole out)) (refusing tooShort out)
-            ≡ cond c (cond w (filled (over (eachOf numberOf nameSize name) out)) (refusing notWhole out)) (refusing tooShort out)
-        go true true e f =
-            ap filled
-            (filled-over (characterValue b s characters) out nameSize (leb-true nameSize (length out) e)
-            ∙ ap (λ (x : List ℕ). over x out)
-            (tab-ext nameSize (characterValue b s characters) (λ i. numberOf (name i))
-            (λ i l. value-told characters place at inside i l (all-each name nameSize f i l))))
-        go true false e f = refl
-        go false w e f = refl
+    -- and how many of them are told
+    count-told : heardIn b s row ≡ countTold (row .count) (λ i. known (place i))
+    count-told =
+        sum-counts (λ i. heardAt b (placeAt s (row .start + i))) (λ i. known (place i)) (row .count)
+        (λ i l. ap (λ (p : ℕ). heardAt b (placeAt s p)) (at i) ∙ holds (place i) (inside i l) .heard)
 
   -- by the type
   counted : (most n : ℕ) → oneTo most n ≡ true → n ≤ most
@@ -188,7 +123,10 @@ module _ (b : List ℕ) (s : ℕ) (known : ℕ → Known) (cells : (p : ℕ) →
   if-named false x y z h = refl
 
   module _ (kind : ℕ) where
-    named : (n : ℕ) → oneTo (extentOf kind .names) n ≡ true → (i : ℕ) → i < nameSize → characterPlace kind n (i + 1) < places
+    abbrev character : ℕ → ℕ → ℕ
+    character n i = characterPlace kind n (i + 1)
+
+    named : (n : ℕ) → oneTo (extentOf kind .names) n ≡ true → (i : ℕ) → i < nameSize → character n i < places
     named n e i l = omega (arith, counted (extentOf kind .names) n e, extents-small kind .names-small)
 
     as-told : (q : Question) (out : List ℕ) → replyAs b s kind q out ≡ toldAs kind known q out
@@ -205,14 +143,14 @@ module _ (b : List ℕ) (s : ℕ) (known : ℕ → Known) (cells : (p : ℕ) →
     as-told (blind n) out =
         let few = extentOf kind .blinds in
         place-if (oneTo few n) (blindPlace n) out (λ e. omega (arith, counted few n e, extents-small kind .blinds-small))
-    as-told (name-heard n) out =
+    as-told (name-row n) out =
         if-named (oneTo (extentOf kind .names) n) _ _ _
-        (λ e. each-told (nameRow kind n .start) (λ i. characterPlace kind n (i + 1)) (λ i. omega arith) (named n e) out)
-    as-told (whole-name n) out =
+        (λ e. rw (count-told (nameRow kind n) (character n) (λ i. omega arith) (named n e)) (numbers-told (nameRow kind n) (character n) (λ i. omega arith) (named n e) _ out))
+    as-told (name-bytes n) out =
         if-named (oneTo (extentOf kind .names) n) _ _ _
-        (λ e. name-told (nameRow kind n .start) (λ i. characterPlace kind n (i + 1)) (λ i. omega arith) (named n e) out)
-    as-told memory-row out = numbers-told (cellRow kind) (cellPlace kind) (λ i. omega arith) (λ i l. omega (arith, extents-small kind .cells-small)) out
-    as-told memory-bytes out = bytes-told (cellRow kind) (cellPlace kind) (λ i. omega arith) (λ i l. omega (arith, extents-small kind .cells-small)) out
+        (λ e. rw (count-told (nameRow kind n) (character n) (λ i. omega arith) (named n e)) (bytes-told (nameRow kind n) (character n) (λ i. omega arith) (named n e) _ out))
+    as-told memory-row out = numbers-told (cellRow kind) (cellPlace kind) (λ i. omega arith) (λ i l. omega (arith, extents-small kind .cells-small)) 0 out
+    as-told memory-bytes out = bytes-told (cellRow kind) (cellPlace kind) (λ i. omega arith) (λ i l. omega (arith, extents-small kind .cells-small)) 0 out
 
 -- ---- the module at an address
 record Seen (b : List ℕ) (S : List Frame) (a s kind : ℕ) : Type 0 where
@@ -270,7 +208,7 @@ module _ (b : List ℕ) (S : List Frame) (good : Good b) (shown : Shows (stateOf
 
   pub listed-told : (out : List ℕ) → listing b out ≡ toldListed S out
   unfolding listing toldListed
-  listed-told out = rw (enough b good) (filling-over (listedIf b) (λ a. yesIf (typeOf S a)) addresses out (λ a l. go a (find (stateOf b .modules) a) refl))
+  listed-told out = rw (enough b good) (filling-over 0 (listedIf b) (λ a. yesIf (typeOf S a)) addresses out (λ a l. go a (find (stateOf b .modules) a) refl))
     where
       go : (a : ℕ) (y : Option Module) → find (stateOf b .modules) a ≡ y → listedIf b a ≡ yesIf (typeOf S a)
       go a none e = rw (slot-none b a e, type-none a e)

@@ -12,7 +12,7 @@ use borrow.Author.Tests.{ltb-true, ltb-false, leb-true}
 use Rattle.laws.specs.Refusals.{tooShort}
 use Rattle.laws.specs.Tab.{tab}
 use Rattle.laws.proofs.Tab.{length-tab, getD-tab, tab-ext}
-use Rattle.questions.specs.Question.{filled, refusing}
+use Rattle.questions.specs.Question.{value, refusing}
 use Rattle.questions.specs.Fills.{filledTo, filling}
 use Rattle.history.specs.Asked.{over, overRow}
 use Rattle.history.proofs.Stores.{laid-within, laid-at, filled-lays}
@@ -41,7 +41,7 @@ module _ (f : ℕ → ℕ) (out : List ℕ) where
       ∙ getD-drop (length (tab n f)) out (i - n) 0
       ∙ ap (λ (j : ℕ). getD out j 0) (sym q)
 
-  pub filled-over : (n : ℕ) → n ≤ length out → filledTo f out n ≡ over (tab n f) out
+  filled-over : (n : ℕ) → n ≤ length out → filledTo f out n ≡ over (tab n f) out
   filled-over n l =
       ext-getD 0 (filledTo f out n) (over (tab n f) out) (to-length n ∙ sym (over-length n l)) (λ i h. go i (ltb i n) refl)
     where
@@ -49,12 +49,12 @@ module _ (f : ℕ → ℕ) (out : List ℕ) where
       go i true e = let h = ltb-true i n e in to-below n i h l ∙ sym (over-below n i h)
       go i false e = let h = ltb-false i n e in to-above n i h ∙ sym (over-above n i h)
 
-pub filling-over : (f g : ℕ → ℕ) (n : ℕ) (out : List ℕ) → ((i : ℕ) → i < n → f i ≡ g i) → filling f n out ≡ overRow (tab n g) out
+pub filling-over : (v : ℕ) (f g : ℕ → ℕ) (n : ℕ) (out : List ℕ) → ((i : ℕ) → i < n → f i ≡ g i) → filling v f n out ≡ overRow v (tab n g) out
 unfolding filling overRow
-filling-over f g n out h =
+filling-over v f g n out h =
     go (leb n (length out)) refl
-    ∙ ap (λ (k : ℕ). cond (leb k (length out)) (filled (over (tab n g) out)) (refusing tooShort out)) (sym (length-tab n g))
+    ∙ ap (λ (k : ℕ). cond (leb k (length out)) (value v (over (tab n g) out)) (refusing tooShort out)) (sym (length-tab n g))
   where
-    go : (c : Bool) → leb n (length out) ≡ c → cond c (filled (filledTo f out n)) (refusing tooShort out) ≡ cond c (filled (over (tab n g) out)) (refusing tooShort out)
-    go true e = ap filled (filled-over f out n (leb-true n (length out) e) ∙ ap (λ (row : List ℕ). over row out) (tab-ext n f g h))
+    go : (c : Bool) → leb n (length out) ≡ c → cond c (value v (filledTo f out n)) (refusing tooShort out) ≡ cond c (value v (over (tab n g) out)) (refusing tooShort out)
+    go true e = ap (value v) (filled-over f out n (leb-true n (length out) e) ∙ ap (λ (row : List ℕ). over row out) (tab-ext n f g h))
     go false e = refl

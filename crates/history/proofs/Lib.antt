@@ -17,6 +17,7 @@ pub mod Found
 pub mod Steps
 pub mod Fills
 pub mod Asked
+pub mod Names
 pub mod Demand3
 pub mod Sentence
 pub mod Effects

@@ -1,18 +1,18 @@
 -- The answers to the questions, as the standing frames tell them: `kind` is the type that they tell of the address asked, `known` what they tell of each
 -- of its places. A reader must believe these definitions. Assumes nothing.
 use Prim.Native.Nat.{ℕ, zero, suc, _+_, _/_, _%_}
-use mathlib.Core.Bool.{Bool, true, false, cond, _&&_}
+use mathlib.Core.Bool.{Bool, cond, _&&_}
 use mathlib.Core.List.{List, [], _∷_, _++_}
 use mathlib.Core.Option.{Option, none, some}
 use lib.Dec.{ltb, leb}
 use lib.ListN.{length, drop}
-use Rattle.laws.specs.Refusals.{typeNotKnown, noSuchPlace, tooShort, notWhole}
+use Rattle.laws.specs.Refusals.{typeNotKnown, noSuchPlace, tooShort}
 use Rattle.laws.specs.Tab.{tab}
 use Rattle.frame.specs.Types.{extentOf}
 use Rattle.places.specs.declared.answers.Answer.{Answer}
 use Rattle.places.specs.declared.answers.Answer.the-variants.{Value, NotHeard}
 use Rattle.places.specs.Places.{yearPlace, weekPlace, ledPlace, blindPlace, characterPlace, cellPlace}
-use Rattle.questions.specs.Question.{Question, type-of, build-year, build-week, cell, led, blind, name-heard, whole-name, memory-row, memory-bytes, Reply, answering, value, refusing}
+use Rattle.questions.specs.Question.{Question, type-of, build-year, build-week, cell, led, blind, name-row, name-bytes, memory-row, memory-bytes, Reply, answering, value, refusing}
 use Rattle.history.specs.Standing.{Frame, Known, unknown, told, typeOf}
 
 -- the answer to a question on what is known: a value, or that it is not heard
@@ -41,9 +41,9 @@ toldIf has k out = cond has (answering (answerOf k) out) (refusing noSuchPlace o
 abbrev pub over : List ℕ → List ℕ → List ℕ
 over row out = row ++ drop (length row) out
 
--- 0 for a buffer that is filled, 13 for one too short for the row
-unfoldable pub overRow : List ℕ → List ℕ → Reply
-overRow row out = cond (leb (length row) (length out)) (value 0 (over row out)) (refusing tooShort out)
+-- the answer v for a buffer that is filled, 13 for one too short for the row
+unfoldable pub overRow : ℕ → List ℕ → List ℕ → Reply
+overRow v row out = cond (leb (length row) (length out)) (value v (over row out)) (refusing tooShort out)
 
 -- what f says of each of n
 abbrev pub eachOf : (Known → ℕ) → ℕ → (ℕ → Known) → List ℕ
@@ -54,14 +54,10 @@ unfoldable pub lowFirst : List ℕ → List ℕ
 lowFirst [] = []
 lowFirst (n ∷ ns) = n % 256 ∷ n / 256 ∷ lowFirst ns
 
--- all of n are told
-abbrev pub andHeard : Known → Bool → Bool
-andHeard unknown b = false
-andHeard (told v) b = b
-
-unfoldable pub allHeard : ℕ → (ℕ → Known) → Bool
-allHeard zero known = true
-allHeard (suc n) known = andHeard (known n) (allHeard n known)
+-- how many of n are told
+unfoldable pub countTold : ℕ → (ℕ → Known) → ℕ
+countTold zero known = 0
+countTold (suc n) known = countTold n known + heardOf (known n)
 
 -- the characters of a name: so many, counted from 1
 abbrev pub nameSize : ℕ
@@ -70,12 +66,12 @@ nameSize = 16
 abbrev pub nameIn : ℕ → (ℕ → Known) → ℕ → ℕ → Known
 nameIn kind known n i = known (characterPlace kind n (i + 1))
 
--- the whole name: 14 unless every character is heard
-unfoldable pub toldName : (ℕ → Known) → List ℕ → Reply
-toldName known out =
-    cond (leb nameSize (length out))
-    (cond (allHeard nameSize known) (value 0 (over (eachOf numberOf nameSize known) out)) (refusing notWhole out))
-    (refusing tooShort out)
+-- a name: how many characters are heard, and the row of them, as it is laid out; 12 where the module has none such
+abbrev pub toldName : (List ℕ → List ℕ) → ℕ → (ℕ → Known) → ℕ → List ℕ → Reply
+toldName lay kind known n out =
+    cond (oneTo (extentOf kind .names) n)
+    (overRow (countTold nameSize (nameIn kind known n)) (lay (eachOf numberOf nameSize (nameIn kind known n))) out)
+    (refusing noSuchPlace out)
 
 -- the memory, a number for each cell
 abbrev pub memory : ℕ → (ℕ → Known) → List ℕ
@@ -89,11 +85,10 @@ toldAs kind known build-week out = answering (answerOf (known weekPlace)) out
 toldAs kind known (cell location) out = toldIf (ltb location (extentOf kind .cells)) (known (cellPlace kind location)) out
 toldAs kind known (led n) out = toldIf (oneTo (extentOf kind .leds) n) (known (ledPlace n)) out
 toldAs kind known (blind n) out = toldIf (oneTo (extentOf kind .blinds) n) (known (blindPlace n)) out
-toldAs kind known (name-heard n) out =
-    cond (oneTo (extentOf kind .names) n) (overRow (eachOf heardOf nameSize (nameIn kind known n)) out) (refusing noSuchPlace out)
-toldAs kind known (whole-name n) out = cond (oneTo (extentOf kind .names) n) (toldName (nameIn kind known n) out) (refusing noSuchPlace out)
-toldAs kind known memory-row out = overRow (memory kind known) out
-toldAs kind known memory-bytes out = overRow (lowFirst (memory kind known)) out
+toldAs kind known (name-row n) out = toldName (λ row. row) kind known n out
+toldAs kind known (name-bytes n) out = toldName lowFirst kind known n out
+toldAs kind known memory-row out = overRow 0 (memory kind known) out
+toldAs kind known memory-bytes out = overRow 0 (lowFirst (memory kind known)) out
 
 -- and on any address: 5 where no module is listed
 unfoldable pub toldReply : Option ℕ → (ℕ → Known) → Question → List ℕ → Reply
@@ -106,4 +101,4 @@ yesIf none = 0
 yesIf (some kind) = 1
 
 unfoldable pub toldListed : List Frame → List ℕ → Reply
-toldListed S out = overRow (tab 256 (λ a. yesIf (typeOf S a))) out
+toldListed S out = overRow 0 (tab 256 (λ a. yesIf (typeOf S a))) out

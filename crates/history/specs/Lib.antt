@@ -1,7 +1,8 @@
--- Read in this order: Standing and Asked (what a reader must believe), then the statements, Demand3, Depth, Sentence, Effects, Speaks and Cases. Machine and Refinement are
+-- Read in this order: Standing and Asked (what a reader must believe), then the statements, Names, Demand3, Depth, Sentence, Effects, Speaks and Cases. Machine and Refinement are
 -- steps of the proof of Demand3, which no reader has to believe.
 pub mod Standing
 pub mod Asked
+pub mod Names
 pub mod Machine
 pub mod Refinement
 pub mod Demand3

@@ -14,9 +14,8 @@ use Rattle.laws.specs.Limits.{AllBytes}
 use Rattle.laws.specs.Refusals.{tooShort}
 use Rattle.places.specs.Places.{Row}
 use Rattle.places.specs.Layout.{placeAt}
-use Rattle.questions.specs.Question.{refusing, filled}
-use Rattle.questions.specs.Fills.{filledTo, filling, valueAt, rowNumber, lowFirst}
-use Rattle.questions.specs.Replies.{sumTo}
+use Rattle.questions.specs.Question.{refusing, value}
+use Rattle.questions.specs.Fills.{filledTo, filling, valueAt, heardAt, rowNumber, lowFirst, sumTo, heardIn}
 
 -- ---- loops that fill, and a loop that adds
 module _ (f : ℕ → ℕ) where
@@ -62,19 +61,19 @@ module _ (f g : ℕ → ℕ) where
   sum-ext zero h = refl
   sum-ext (suc n) h = rw (sum-ext n (λ i l. h i (omega arith)), h n (omega arith))
 
--- n that f gives, where the code has m for n: 13, or filled
-module _ (f : ℕ → ℕ) (n : ℕ) (out : List ℕ) {m : ℕ} (e : m ≡ n) where
-  pub fill-short : length out < m → refusing tooShort out ≡ filling f n out
+-- n that f gives, where the code has m for n: 13, or filled, with the answer that it has for v
+module _ (v : ℕ) (f : ℕ → ℕ) (n : ℕ) (out : List ℕ) {m : ℕ} (e : m ≡ n) where
+  pub fill-short : length out < m → refusing tooShort out ≡ filling v f n out
   unfolding filling
   fill-short h = rw (rw e at (lt-leb m (length out) h))
 
-  pub fill-done : m ≤ length out → {x : List ℕ} → x ≡ filledTo f out m → filled x ≡ filling f n out
+  pub fill-done : m ≤ length out → {w : ℕ} {x : List ℕ} → w ≡ v → x ≡ filledTo f out m → value w x ≡ filling v f n out
   unfolding filling
-  fill-done h p = rw (rw e at (le-leb m (length out) h), ← e, ← p)
+  fill-done h q p = rw (rw e at (le-leb m (length out) h), ← e, ← p, ← q)
 
 -- ---- a row of places, whose first byte is at o
 -- the two bytes of a number, each by itself
-pub low-of : (b : List ℕ) (o : ℕ) → AllBytes b → valueAt b o % 256 ≡ getD b o 0
+low-of : (b : List ℕ) (o : ℕ) → AllBytes b → valueAt b o % 256 ≡ getD b o 0
 low-of b o bytes = omega (arith, bytes o)
 
 high-of : (b : List ℕ) (o : ℕ) → AllBytes b → valueAt b o / 256 ≡ getD b (o + 1) 0
@@ -96,3 +95,8 @@ module _ (b : List ℕ) (s : ℕ) (row : Row) {o : ℕ} (e : o ≡ placeAt s (ro
           let odd = eqb-false (j % 2) 0 d in
           let q : o + j ≡ placeAt s (row .start + j / 2) + 1 = omega arith in
           rw q (sym (high-of b (placeAt s (row .start + j / 2)) bytes))
+
+-- and how many of them are told
+pub row-heard : (b : List ℕ) (s : ℕ) (row : Row) {o w : ℕ} → o ≡ placeAt s (row .start) → w ≡ sumTo (λ i. heardAt b (o + 2 * i)) (row .count) → w ≡ heardIn b s row
+row-heard b s row {o} e p =
+    p ∙ sum-ext (λ i. heardAt b (o + 2 * i)) (λ i. heardAt b (placeAt s (row .start + i))) (row .count) (λ i l. let q : o + 2 * i ≡ placeAt s (row .start + i) = omega arith in rw q)

@@ -2,5 +2,6 @@ pub mod Replying
 pub mod Extents
 pub mod Filling
 pub mod Naming
+pub mod Counts
 pub mod RowBytes
 pub mod Runs

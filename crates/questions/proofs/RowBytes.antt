@@ -1,4 +1,4 @@
--- The memory as bytes is the row of numbers, as specs/Statements.antt states it. Assumes nothing.
+-- Names and the memory as bytes are the rows of numbers, as specs/Statements.antt states it. Assumes nothing.
 use Prim.Native.Nat.{ℕ, zero, suc, _+_, _*_, _/_, _%_, _≤_}
 use native.Mathlib.Omega.{arith}
 use mathlib.Core.Path.{_≡_, refl, ap, _∙_}
@@ -7,14 +7,14 @@ use mathlib.Core.List.{List, [], _∷_}
 use lib.Dec.{eqb, ltb, leb}
 use lib.ListN.{length, set}
 use borrow.Author.Tests.{leb-true, leb-false, le-leb, lt-leb}
-use Rattle.laws.specs.Refusals.{typeNotKnown, tooShort}
+use Rattle.laws.specs.Refusals.{typeNotKnown, noSuchPlace, tooShort}
 use Rattle.places.specs.Limits.{room}
-use Rattle.places.specs.Places.{cellRow}
+use Rattle.places.specs.Places.{Row, hasName, nameRow, cellRow}
 use Rattle.places.specs.Head.{short, kindIn}
-use Rattle.questions.specs.Question.{memory-row, memory-bytes, filled, refusing}
-use Rattle.questions.specs.Fills.{filledTo, filling, rowNumber, lowFirst, numbersFill, bytesFill}
+use Rattle.questions.specs.Question.{Question, name-row, name-bytes, memory-row, memory-bytes, value, refusing}
+use Rattle.questions.specs.Fills.{filledTo, filling, rowNumber, lowFirst, numbersFill, bytesFill, heardIn}
 use Rattle.questions.specs.Replies.{slotAsked, replyAs, replyIn, reply}
-use Rattle.questions.specs.Statements.{inBytes, replyInBytes, RowIsBytes}
+use Rattle.questions.specs.Statements.{inBytes, replyInBytes, SameInBytes, RowsAreBytes}
 
 twice : (n : ℕ) → 2 * suc n ≡ suc (suc (2 * n))
 twice n = omega arith
@@ -56,33 +56,61 @@ room-bytes n row = rw (length-bytes row) (go (leb n (length row)) refl)
     go true e = le-leb (2 * n) (2 * length row) (omega (arith, leb-true n (length row) e))
     go false e = lt-leb (2 * n) (2 * length row) (omega (arith, leb-false n (length row) e))
 
-fill-bytes : (f : ℕ → ℕ) (n : ℕ) (row : List ℕ) → filling (lowFirst f) (2 * n) (inBytes row) ≡ replyInBytes (filling f n row)
+fill-bytes : (v : ℕ) (f : ℕ → ℕ) (n : ℕ) (row : List ℕ) → filling v (lowFirst f) (2 * n) (inBytes row) ≡ replyInBytes (filling v f n row)
 unfolding filling
-fill-bytes f n row = rw (room-bytes n row, filled-bytes f row n) (go (leb n (length row)))
+fill-bytes v f n row = rw (room-bytes n row, filled-bytes f row n) (go (leb n (length row)))
   where
     go :
         (t : Bool) →
-        cond t (filled (inBytes (filledTo f row n))) (refusing tooShort (inBytes row)) ≡ replyInBytes (cond t (filled (filledTo f row n)) (refusing tooShort row))
+        cond t (value v (inBytes (filledTo f row n))) (refusing tooShort (inBytes row)) ≡ replyInBytes (cond t (value v (filledTo f row n)) (refusing tooShort row))
     go true = refl
     go false = refl
 
-pub row-is-bytes : RowIsBytes
-unfolding reply replyIn replyAs numbersFill bytesFill
-row-is-bytes b a row = go (short b) (ltb S room)
+-- any row of places
+row-bytes : (v : ℕ) (b : List ℕ) (s : ℕ) (places : Row) (row : List ℕ) → bytesFill v b s places (inBytes row) ≡ replyInBytes (numbersFill v b s places row)
+unfolding numbersFill bytesFill
+row-bytes v b s places row = fill-bytes v (rowNumber b s places) (places .count) row
+
+-- a question whose reply is alike for the module in each slot
+by-slot :
+    (numbers bytes : Question) →
+    ((b : List ℕ) (s : ℕ) (row : List ℕ) → replyAs b s (kindIn b s) bytes (inBytes row) ≡ replyInBytes (replyAs b s (kindIn b s) numbers row)) →
+    SameInBytes numbers bytes
+unfolding reply replyIn
+by-slot numbers bytes same b a row = go (short b) (ltb S room)
   where
     S : ℕ
     S = slotAsked b a
 
-    f : ℕ → ℕ
-    f = rowNumber b (slotAsked b a) (cellRow (kindIn b (slotAsked b a)))
-
-    n : ℕ
-    n = cellRow (kindIn b (slotAsked b a)) .count
-
     go :
         (s t : Bool) →
-        cond s (refusing tooShort (inBytes row)) (cond t (filling (lowFirst f) (2 * n) (inBytes row)) (refusing typeNotKnown (inBytes row)))
-        ≡ replyInBytes (cond s (refusing tooShort row) (cond t (filling f n row) (refusing typeNotKnown row)))
+        cond s (refusing tooShort (inBytes row)) (cond t (replyAs b S (kindIn b S) bytes (inBytes row)) (refusing typeNotKnown (inBytes row)))
+        ≡ replyInBytes (cond s (refusing tooShort row) (cond t (replyAs b S (kindIn b S) numbers row) (refusing typeNotKnown row)))
     go true t = refl
-    go false true = fill-bytes f n row
+    go false true = same b S row
     go false false = refl
+
+name-same : (n : ℕ) (b : List ℕ) (s kind : ℕ) (row : List ℕ) → replyAs b s kind (name-bytes n) (inBytes row) ≡ replyInBytes (replyAs b s kind (name-row n) row)
+unfolding replyAs
+name-same n b s kind row = go (hasName kind n)
+  where
+    count : ℕ
+    count = heardIn b s (nameRow kind n)
+
+    go :
+        (t : Bool) →
+        cond t (bytesFill count b s (nameRow kind n) (inBytes row)) (refusing noSuchPlace (inBytes row))
+        ≡ replyInBytes (cond t (numbersFill count b s (nameRow kind n) row) (refusing noSuchPlace row))
+    go true = row-bytes count b s (nameRow kind n) row
+    go false = refl
+
+memory-same : (b : List ℕ) (s kind : ℕ) (row : List ℕ) → replyAs b s kind memory-bytes (inBytes row) ≡ replyInBytes (replyAs b s kind memory-row row)
+unfolding replyAs
+memory-same b s kind row = row-bytes 0 b s (cellRow kind) row
+
+pub rows-are-bytes : RowsAreBytes
+rows-are-bytes =
+    record {
+      names = λ n. by-slot (name-row n) (name-bytes n) (λ b s row. name-same n b s (kindIn b s) row);
+      memory = by-slot memory-row memory-bytes (λ b s row. memory-same b s (kindIn b s) row);
+    }

@@ -12,10 +12,10 @@ pub data Question : Type 0 where
   cell : ℕ → Question
   led : ℕ → Question
   blind : ℕ → Question
-  -- which of the sixteen characters of a name are heard, and the whole name
-  name-heard : ℕ → Question
-  whole-name : ℕ → Question
-  -- the memory as a row of numbers, and the same row as bytes
+  -- the characters of a name as a row of numbers, and the same row as bytes
+  name-row : ℕ → Question
+  name-bytes : ℕ → Question
+  -- the memory likewise
   memory-row : Question
   memory-bytes : Question
 
@@ -24,15 +24,12 @@ pub record Reply : Type 0 where
   pub answer : Answer
   pub buffer : List ℕ
 
--- any answer, a number, a buffer that was filled (0), a refusal: the buffer as it was but for what was filled
+-- any answer, a number, a refusal
 abbrev pub answering : Answer → List ℕ → Reply
 answering answer out = record { answer = answer; buffer = out }
 
 abbrev pub value : ℕ → List ℕ → Reply
 value n out = answering (Value n) out
-
-abbrev pub filled : List ℕ → Reply
-filled out = value 0 out
 
 abbrev pub refusing : ℕ → List ℕ → Reply
 refusing n out = answering (Refused n) out

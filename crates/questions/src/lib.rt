@@ -8,7 +8,7 @@ mod values;
 pub use asking::AddressAsked;
 pub use asking::LocationAsked;
 pub use names::name;
-pub use names::name_heard;
+pub use names::name_bytes;
 pub use rows::listed;
 pub use rows::memory_bytes;
 pub use rows::memory_row;

@@ -1,14 +1,12 @@
-// Questions on the names of a module: which characters are heard, and the whole name. Both go by the name's row of numbers.
+// The question on a name of a module: its sixteen characters as a row of numbers, or the same row as bytes, and how many of them are heard.
 use crate::asking::AddressAsked;
 use crate::asking::slot_asked;
+use crate::copying::fill_bytes;
 use crate::rows::fill_numbers;
 use laws::NO_SUCH_PLACE;
-use laws::NOT_WHOLE;
 use laws::TOO_SHORT;
 use laws::TYPE_NOT_KNOWN;
 use places::Answer;
-use places::NAME_LENGTH;
-use places::NOT_HEARD;
 use places::ROOM;
 use places::SIZE;
 use places::character_place;
@@ -16,110 +14,118 @@ use places::has_name;
 use places::kind_in;
 use places::place_at;
 ghost use mathlib.Core.Path.{_≡_};
-ghost use mathlib.Core.Bool.{cond};
-ghost use Prim.Native.Nat.{_≤_, _%_};
-ghost use lib.Dec.{ltb};
-ghost use lib.ListN.{length, getD};
-ghost use Rattle.places.specs.Limits.{notHeard};
-ghost use Rattle.places.specs.Places.{nameLength};
-ghost use Rattle.questions.specs.Question.{name-heard, whole-name};
-ghost use Rattle.questions.specs.Fills.{filledTo};
-ghost use Rattle.questions.specs.Replies.{sumTo, nameRefusal, nameNumbers, reply};
+ghost use mathlib.Core.Bool.{true};
+ghost use Prim.Native.Nat.{_+_, _*_, _<_, _≤_};
+ghost use lib.ListN.{length};
+ghost use Rattle.places.specs.Limits.{room};
+ghost use Rattle.places.specs.Layout.{size, placeAt};
+ghost use Rattle.places.specs.Places.{nameLength, hasName, nameRow};
+ghost use Rattle.places.specs.Head.{kindIn};
+ghost use Rattle.questions.specs.Question.{name-row, name-bytes};
+ghost use Rattle.questions.specs.Fills.{heardAt, sumTo};
+ghost use Rattle.questions.specs.Replies.{replyAs, reply};
 
-// The numbers of a name's characters; or the number of a refusal that both questions have before their own.
-fn name_numbers(picture: &[u8], address: AddressAsked, name: u32, row: &mut [u16; 16]) -> u16
-    ensures { λ r. ⌜ r ≡ nameRefusal (now (picture .entry)) (address .0) name ⌝ }
-    ensures { λ _. ⌜ now (row .exit) ≡ nameNumbers (now (picture .entry)) (address .0) name (now (row .entry)) ⌝ }
+// How many characters a name has.
+const NAME_LENGTH: usize = places::NAME_LENGTH as usize;
+
+// 1 for a place that is told, else 0: its high byte says so.
+fn heard_at(picture: &[u8], at: usize) -> u16
+    requires { ⌜ at + 2 ≤ length (now picture) ⌝ }
+    ensures { λ r. ⌜ (r ≡ heardAt (now (picture .entry)) at) × (r ≤ 1) ⌝ }
+{
+    if picture[at + 1] == 0 { 1 } else { 0 }
+}
+
+// How many of sixteen places, the first of which is at `at`, are told.
+fn heard_from(picture: &[u8], at: usize) -> u16
+    requires { ⌜ at + 2 * nameLength ≤ length (now picture) ⌝ }
+    ensures { λ r. ⌜ r ≡ sumTo (λ i. heardAt (now (picture .entry)) (at + 2 * i)) nameLength ⌝ }
+{
+    let mut count: u16 = 0;
+    let mut i: usize = 0;
+    while i < NAME_LENGTH {
+        count += heard_at(picture, at + 2 * i);
+        i += 1;
+    }
+    count
+}
+
+// Whether the module in a slot has a name of that number, and where the first character of one that it has lies.
+fn has_name_in(picture: &[u8], slot: u8, name: u32) -> bool
+    ensures { λ r. ⌜ r ≡ hasName (kindIn (now (picture .entry)) slot) name ⌝ }
+{
+    has_name(kind_in(picture, slot), name)
+}
+
+fn name_at(picture: &[u8], slot: u8, name: u32) -> usize
+    requires { ⌜ (size ≤ length (now picture)) × (slot < room) × (hasName (kindIn (now picture) slot) name ≡ true) ⌝ }
+    ensures { λ r. ⌜ (r ≡ placeAt slot (nameRow (kindIn (now (picture .entry)) slot) name .start)) × (r + 2 * nameLength ≤ length (now (picture .entry))) ⌝ }
+{
+    place_at(slot, character_place(kind_in(picture, slot), name as u8, 1))
+}
+
+fn name_in(picture: &[u8], slot: u8, name: u32, row: &mut [u16]) -> Answer
+    requires { ⌜ (size ≤ length (now picture)) × (slot < room) ⌝ }
+    ensures { λ r. ⌜ r ≡ replyAs (now (picture .entry)) slot (kindIn (now (picture .entry)) slot) (name-row name) (now (row .entry)) .answer ⌝ }
+    ensures { λ _. ⌜ now (row .exit) ≡ replyAs (now (picture .entry)) slot (kindIn (now (picture .entry)) slot) (name-row name) (now (row .entry)) .buffer ⌝ }
+{
+    if has_name_in(picture, slot, name) {
+        let n = NAME_LENGTH;
+        if row.len() < n {
+            return Answer::Refused(TOO_SHORT);
+        }
+        let at = name_at(picture, slot, name);
+        fill_numbers(picture, at, n, row);
+        return Answer::Value(heard_from(picture, at));
+    }
+    Answer::Refused(NO_SUCH_PLACE)
+}
+
+// One number for each of the sixteen characters, 0 to 255 as told, 256 for not heard, and how many are heard. The entries beyond keep theirs.
+pub fn name(picture: &[u8], address: AddressAsked, name: u32, row: &mut [u16]) -> Answer
+    ensures { λ r. ⌜ r ≡ reply (now (picture .entry)) (address .0) (name-row name) (now (row .entry)) .answer ⌝ }
+    ensures { λ _. ⌜ now (row .exit) ≡ reply (now (picture .entry)) (address .0) (name-row name) (now (row .entry)) .buffer ⌝ }
 {
     if picture.len() < SIZE {
-        return TOO_SHORT;
+        return Answer::Refused(TOO_SHORT);
     }
     let slot = slot_asked(picture, address);
-    if ROOM <= slot {
-        return TYPE_NOT_KNOWN;
-    }
-    let kind = kind_in(picture, slot);
-    if has_name(kind, name) {
-        let at = place_at(slot, character_place(kind, name as u8, 1));
-        fill_numbers(picture, at, NAME_LENGTH as usize, row);
-        return 0;
-    }
-    NO_SUCH_PLACE
-}
-
-fn heard(number: u16) -> u8
-    ensures { λ r. ⌜ (r ≡ cond (ltb number notHeard) 1 0) × (r ≤ 1) ⌝ }
-{
-    if number < NOT_HEARD { 1 } else { 0 }
-}
-
-fn fill_heard(row: [u16; 16], out: &mut [u8])
-    requires { ⌜ nameLength ≤ length (now out) ⌝ }
-    ensures { λ _. ⌜ now (out .exit) ≡ filledTo (λ i. cond (ltb (getD row i 0) notHeard) 1 0) (now (out .entry)) nameLength ⌝ }
-{
-    let mut i: usize = 0;
-    while i < NAME_LENGTH as usize {
-        out[i] = heard(row[i]);
-        i += 1;
+    if slot < ROOM {
+        name_in(picture, slot, name, row)
+    } else {
+        Answer::Refused(TYPE_NOT_KNOWN)
     }
 }
 
-fn fill_characters(row: [u16; 16], out: &mut [u8])
-    requires { ⌜ nameLength ≤ length (now out) ⌝ }
-    ensures { λ _. ⌜ now (out .exit) ≡ filledTo (λ i. getD row i 0 % 256) (now (out .entry)) nameLength ⌝ }
+fn name_bytes_in(picture: &[u8], slot: u8, name: u32, out: &mut [u8]) -> Answer
+    requires { ⌜ (size ≤ length (now picture)) × (slot < room) ⌝ }
+    ensures { λ r. ⌜ r ≡ replyAs (now (picture .entry)) slot (kindIn (now (picture .entry)) slot) (name-bytes name) (now (out .entry)) .answer ⌝ }
+    ensures { λ _. ⌜ now (out .exit) ≡ replyAs (now (picture .entry)) slot (kindIn (now (picture .entry)) slot) (name-bytes name) (now (out .entry)) .buffer ⌝ }
 {
-    let mut i: usize = 0;
-    while i < NAME_LENGTH as usize {
-        out[i] = (row[i] % 256) as u8;
-        i += 1;
+    if has_name_in(picture, slot, name) {
+        let n = 2 * NAME_LENGTH;
+        if out.len() < n {
+            return Answer::Refused(TOO_SHORT);
+        }
+        let at = name_at(picture, slot, name);
+        fill_bytes(picture, at, n, out);
+        return Answer::Value(heard_from(picture, at));
     }
+    Answer::Refused(NO_SUCH_PLACE)
 }
 
-fn heard_count(row: [u16; 16]) -> u8
-    ensures { λ r. ⌜ r ≡ sumTo (λ i. cond (ltb (getD row i 0) notHeard) 1 0) nameLength ⌝ }
+// The same row as bytes, two for each number, low byte first.
+pub fn name_bytes(picture: &[u8], address: AddressAsked, name: u32, out: &mut [u8]) -> Answer
+    ensures { λ r. ⌜ r ≡ reply (now (picture .entry)) (address .0) (name-bytes name) (now (out .entry)) .answer ⌝ }
+    ensures { λ _. ⌜ now (out .exit) ≡ reply (now (picture .entry)) (address .0) (name-bytes name) (now (out .entry)) .buffer ⌝ }
 {
-    let mut sum: u8 = 0;
-    let mut i: usize = 0;
-    while i < NAME_LENGTH as usize {
-        sum += heard(row[i]);
-        i += 1;
-    }
-    sum
-}
-
-// For each of the sixteen characters of a name, 1 if it is heard.
-pub fn name_heard(picture: &[u8], address: AddressAsked, name: u32, out: &mut [u8]) -> Answer
-    ensures { λ r. ⌜ r ≡ reply (now (picture .entry)) (address .0) (name-heard name) (now (out .entry)) .answer ⌝ }
-    ensures { λ _. ⌜ now (out .exit) ≡ reply (now (picture .entry)) (address .0) (name-heard name) (now (out .entry)) .buffer ⌝ }
-{
-    let mut row: [u16; 16] = [0; 16];
-    let refusal = name_numbers(picture, address, name, &mut row);
-    if refusal != 0 {
-        return Answer::Refused(refusal);
-    }
-    if out.len() < NAME_LENGTH as usize {
+    if picture.len() < SIZE {
         return Answer::Refused(TOO_SHORT);
     }
-    fill_heard(row, out);
-    Answer::Value(0)
-}
-
-// The name itself: 14 unless every character is heard.
-pub fn name(picture: &[u8], address: AddressAsked, name: u32, out: &mut [u8]) -> Answer
-    ensures { λ r. ⌜ r ≡ reply (now (picture .entry)) (address .0) (whole-name name) (now (out .entry)) .answer ⌝ }
-    ensures { λ _. ⌜ now (out .exit) ≡ reply (now (picture .entry)) (address .0) (whole-name name) (now (out .entry)) .buffer ⌝ }
-{
-    let mut row: [u16; 16] = [0; 16];
-    let refusal = name_numbers(picture, address, name, &mut row);
-    if refusal != 0 {
-        return Answer::Refused(refusal);
+    let slot = slot_asked(picture, address);
+    if slot < ROOM {
+        name_bytes_in(picture, slot, name, out)
+    } else {
+        Answer::Refused(TYPE_NOT_KNOWN)
     }
-    if out.len() < NAME_LENGTH as usize {
-        return Answer::Refused(TOO_SHORT);
-    }
-    if heard_count(row) as u32 == NAME_LENGTH {
-        fill_characters(row, out);
-        return Answer::Value(0);
-    }
-    Answer::Refused(NOT_WHOLE)
 }

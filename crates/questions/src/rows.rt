@@ -93,8 +93,8 @@ fn first_cell(picture: &[u8], slot: u8) -> u32
 
 fn memory_in(picture: &[u8], slot: u8, out: &mut [u16]) -> Answer
     requires { ⌜ (size ≤ length (now picture)) × (slot < room) ⌝ }
-    ensures { λ r. ⌜ r ≡ numbersFill (now (picture .entry)) slot (cellRow (kindIn (now (picture .entry)) slot)) (now (out .entry)) .answer ⌝ }
-    ensures { λ _. ⌜ now (out .exit) ≡ numbersFill (now (picture .entry)) slot (cellRow (kindIn (now (picture .entry)) slot)) (now (out .entry)) .buffer ⌝ }
+    ensures { λ r. ⌜ r ≡ numbersFill 0 (now (picture .entry)) slot (cellRow (kindIn (now (picture .entry)) slot)) (now (out .entry)) .answer ⌝ }
+    ensures { λ _. ⌜ now (out .exit) ≡ numbersFill 0 (now (picture .entry)) slot (cellRow (kindIn (now (picture .entry)) slot)) (now (out .entry)) .buffer ⌝ }
 {
     let n = cells_in(picture, slot);
     if out.len() < n {
@@ -124,8 +124,8 @@ pub fn memory_row(picture: &[u8], address: AddressAsked, out: &mut [u16]) -> Ans
 // A place's two bytes are its number, low byte first, so that the row as bytes is a copy.
 fn memory_bytes_in(picture: &[u8], slot: u8, out: &mut [u8]) -> Answer
     requires { ⌜ (size ≤ length (now picture)) × (slot < room) ⌝ }
-    ensures { λ r. ⌜ r ≡ bytesFill (now (picture .entry)) slot (cellRow (kindIn (now (picture .entry)) slot)) (now (out .entry)) .answer ⌝ }
-    ensures { λ _. ⌜ now (out .exit) ≡ bytesFill (now (picture .entry)) slot (cellRow (kindIn (now (picture .entry)) slot)) (now (out .entry)) .buffer ⌝ }
+    ensures { λ r. ⌜ r ≡ bytesFill 0 (now (picture .entry)) slot (cellRow (kindIn (now (picture .entry)) slot)) (now (out .entry)) .answer ⌝ }
+    ensures { λ _. ⌜ now (out .exit) ≡ bytesFill 0 (now (picture .entry)) slot (cellRow (kindIn (now (picture .entry)) slot)) (now (out .entry)) .buffer ⌝ }
 {
     let n = 2 * cells_in(picture, slot);
     if out.len() < n {

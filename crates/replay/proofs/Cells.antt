@@ -17,8 +17,8 @@ use Rattle.places.specs.Layout.{placeAt}
 use Rattle.places.specs.Head.{short, kindIn}
 use Rattle.places.proofs.Fitting.{extents-small}
 use Rattle.questions.specs.Question.{Reply, cell, memory-row, refusing}
-use Rattle.questions.specs.Fills.{filledTo, filling, valueAt, rowNumber, numbersFill}
-use Rattle.questions.specs.Replies.{slotAsked, answerAt, placeReply, replyAs, replyIn, reply, sumTo}
+use Rattle.questions.specs.Fills.{filledTo, filling, valueAt, rowNumber, numbersFill, sumTo}
+use Rattle.questions.specs.Replies.{slotAsked, answerAt, placeReply, replyAs, replyIn, reply}
 use Rattle.questions.proofs.Replying.{not-heard, heard}
 use Rattle.questions.proofs.Filling.{filled-at, sum-ext}
 use Rattle.replay.specs.Sheets.{toldIf, toldNumber, toldCell, toldCells}
@@ -51,7 +51,7 @@ module _ (b : List ℕ) (a : ℕ) (bytes : AllBytes b) (row : List ℕ) (fresh :
   wide : extentOf K .cells ≤ length row
   wide = omega (arith, extents-small K .cells-small, ap length fresh ∙ length-replicate 256 notHeard)
 
-  in-slot : toldNumber (getD (numbersFill b S (cellRow K) row .buffer) i 0) ≡ toldIf (placeReply b S (cellAsked K i) [] .answer)
+  in-slot : toldNumber (getD (numbersFill 0 b S (cellRow K) row .buffer) i 0) ≡ toldIf (placeReply b S (cellAsked K i) [] .answer)
   unfolding numbersFill filling placeReply cellAsked
   in-slot = rw (le-leb (extentOf K .cells) (length row) wide) (go (ltb i (extentOf K .cells)) refl)
     where
@@ -70,7 +70,7 @@ module _ (b : List ℕ) (a : ℕ) (bytes : AllBytes b) (row : List ℕ) (fresh :
   unfolding reply replyIn replyAs toldCell
   each = go (short b) (ltb S room)
     where
-      go : (s t : Bool) → toldNumber (getD (by s t (numbersFill b S (cellRow K) row) row .buffer) i 0) ≡ toldIf (by s t (placeReply b S (cellAsked K i) []) [] .answer)
+      go : (s t : Bool) → toldNumber (getD (by s t (numbersFill 0 b S (cellRow K) row) row .buffer) i 0) ≡ toldIf (by s t (placeReply b S (cellAsked K i) []) [] .answer)
       go true t = untouched
       go false true = in-slot
       go false false = untouched

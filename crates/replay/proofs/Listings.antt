@@ -19,9 +19,10 @@ use Rattle.places.specs.declared.answers.Answer.the-variants.{Value, NotHeard, 
 use Rattle.frame.specs.Types.{extentOf}
 use Rattle.places.specs.Limits.{addresses}
 use Rattle.places.specs.Places.{nameLength}
-use Rattle.questions.specs.Question.{type-of, whole-name}
-use Rattle.questions.specs.Replies.{sumTo, reply}
-use Rattle.replay.specs.Sheets.{isValue, wholeName, wholeNames, toldCells}
+use Rattle.questions.specs.Question.{type-of, name-row}
+use Rattle.questions.specs.Fills.{sumTo}
+use Rattle.questions.specs.Replies.{reply}
+use Rattle.replay.specs.Sheets.{isWhole, wholeName, wholeNames, toldCells}
 use Rattle.replay.specs.Text.{Fits, Written}
 use Rattle.replay.specs.Lines.{header, brokenLine, countLine}
 use Rattle.replay.specs.Listing.{sheetText, typedText, moduleText, modulesText, faultText, listingText}
@@ -31,7 +32,7 @@ use Rattle.replay.proofs.Runs.{one-or-none}
 
 pub whole-small : (b : List ℕ) (address name : ℕ) → wholeName b address name ≤ 1
 unfolding wholeName
-whole-small b address name = one-or-none (isValue (reply b address (whole-name name) (replicate nameLength 0) .answer))
+whole-small b address name = one-or-none (isWhole (reply b address (name-row name) (replicate nameLength 0) .answer))
 
 pub sum-more : (f : ℕ → ℕ) (i : ℕ) → sumTo f (i + 1) ≡ sumTo f i + f i
 unfolding sumTo

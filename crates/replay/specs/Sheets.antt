@@ -1,25 +1,26 @@
 -- What the listing counts of a module.
 use Prim.Native.Nat.{ℕ, _+_}
 use mathlib.Core.List.{List, []}
-use mathlib.Core.Bool.{Bool, true, false, cond}
+use mathlib.Core.Bool.{Bool, false, cond}
 use lib.Dec.{eqb}
 use lib.ListN.{replicate}
 use Rattle.places.specs.declared.answers.Answer.{Answer}
 use Rattle.places.specs.declared.answers.Answer.the-variants.{Value, NotHeard, Refused}
 use Rattle.places.specs.Limits.{notHeard}
 use Rattle.places.specs.Places.{nameLength}
-use Rattle.questions.specs.Question.{cell, whole-name}
-use Rattle.questions.specs.Replies.{sumTo, reply}
+use Rattle.questions.specs.Question.{cell, name-row}
+use Rattle.questions.specs.Fills.{sumTo}
+use Rattle.questions.specs.Replies.{reply}
 use Rattle.replay.specs.Replay.{one}
 
--- 1 for a name that is whole: the question on it is answered
-abbrev pub isValue : Answer → Bool
-isValue (Value v) = true
-isValue NotHeard = false
-isValue (Refused n) = false
+-- 1 for a name that is whole: all its characters are heard
+abbrev pub isWhole : Answer → Bool
+isWhole (Value heard) = eqb heard nameLength
+isWhole NotHeard = false
+isWhole (Refused n) = false
 
 unfoldable pub wholeName : List ℕ → ℕ → ℕ → ℕ
-wholeName b address name = one (isValue (reply b address (whole-name name) (replicate nameLength 0) .answer))
+wholeName b address name = one (isWhole (reply b address (name-row name) (replicate nameLength 0) .answer))
 
 -- 1 for a value, 0 for not heard and for no place
 abbrev pub toldIf : Answer → ℕ

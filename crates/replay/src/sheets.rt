@@ -4,20 +4,30 @@ use places::NOT_HEARD;
 use questions::AddressAsked;
 ghost use mathlib.Core.Path.{_≡_};
 ghost use Prim.Native.Nat.{_+_, _≤_};
+ghost use lib.Dec.{eqb};
 ghost use lib.ListN.{length, getD};
-ghost use Rattle.questions.specs.Replies.{sumTo};
+ghost use Rattle.places.specs.Places.{nameLength};
+ghost use Rattle.questions.specs.Fills.{sumTo};
+ghost use Rattle.replay.specs.Replay.{one};
 ghost use Rattle.replay.specs.Sheets.{wholeName, toldNumber, wholeNames, toldCells};
 
 // The length of a name.
 const NAME_LENGTH: usize = places::NAME_LENGTH as usize;
 
+// 1 for a count of heard characters that is a name's whole length, else 0.
+fn all_heard(count: u16) -> u64
+    ensures { λ r. ⌜ r ≡ one (eqb count nameLength) ⌝ }
+{
+    if count as usize == NAME_LENGTH { 1 } else { 0 }
+}
+
 // 1 for a name that is whole, else 0.
 fn whole_name(picture: &[u8], address: u32, name: u32) -> u64
     ensures { λ r. ⌜ r ≡ wholeName (now (picture .entry)) address name ⌝ }
 {
-    let mut characters = [0u8; NAME_LENGTH];
-    match questions::name(picture, AddressAsked(address), name, &mut characters) {
-        Answer::Value(_) => 1,
+    let mut row = [0u16; NAME_LENGTH];
+    match questions::name(picture, AddressAsked(address), name, &mut row) {
+        Answer::Value(count) => all_heard(count),
         Answer::NotHeard => 0,
         Answer::Refused(_) => 0,
     }

@@ -4,6 +4,7 @@ use crate::text::past;
 use crate::words::TYPES;
 use laws::byte_at;
 use places::Answer;
+use places::NOT_HEARD;
 
 // The most bytes of an answer in words.
 pub const WORDS: usize = 512;
@@ -91,11 +92,38 @@ pub(crate) fn say_text(text: &[u8]) -> Words {
     w
 }
 
-// A refusal, a 9 with its byte. 14 is given only for a name of which not all is heard.
-pub(crate) fn refused(code: u16) -> Words {
-    if code == laws::NOT_WHOLE {
-        return say(b" not whole");
+// The letter that a number of a row stands for; none, which is no text, where it is not heard.
+fn letter_of(n: u16) -> u8 {
+    if n < NOT_HEARD { (n % 256) as u8 } else { 0 }
+}
+
+fn letter_at(row: &[u16], i: usize) -> u8 {
+    if i < row.len() { letter_of(row[i]) } else { 0 }
+}
+
+fn add_character(w: Words, before: u8, n: u16, next: u8) -> Words {
+    if n < NOT_HEARD {
+        return add_letter(w, before, letter_of(n), next);
     }
+    add(w, b" --")
+}
+
+// The characters of a row: texts and bytes, and two dashes for one that is not heard.
+pub(crate) fn add_characters(begun: Words, row: &[u16]) -> Words {
+    let mut w = begun;
+    let mut before = 0;
+    let mut i = 0;
+    while i < row.len() {
+        let n = row[i];
+        i += 1;
+        w = add_character(w, before, n, letter_at(row, i));
+        before = letter_of(n);
+    }
+    w
+}
+
+// A refusal, a 9 with its byte.
+pub(crate) fn refused(code: u16) -> Words {
     let w = add_decimal(say(b" refused"), repair::number_in(code) as u64);
     let byte = repair::byte_in(code);
     if byte == 0 {

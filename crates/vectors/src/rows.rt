@@ -2,6 +2,8 @@
 use crate::answers::Words;
 use crate::answers::add;
 use crate::answers::add_bytes;
+use crate::answers::add_characters;
+use crate::answers::add_decimal;
 use crate::answers::refused;
 use crate::answers::say;
 use crate::answers::say_text;
@@ -9,11 +11,12 @@ use crate::answers::value;
 use crate::text::part;
 use crate::words::ROOM;
 use crate::words::Reader;
+use laws::both;
 use places::Answer;
 use places::NOT_HEARD;
 use questions::AddressAsked;
 
-// The bytes of a name, and those of the buffer where none are named.
+// The characters of a name, and the entries of its row where none are named.
 const NAME: usize = 16;
 
 const NAME_ROOM: u32 = 18;
@@ -49,7 +52,7 @@ fn shown(letter: u8, refusal: u16, filled: &[u8]) -> Words {
         return refused(refusal);
     }
     match letter {
-        b'n' | b'P' => say_text(filled),
+        b'P' => say_text(filled),
         _ => add_bytes(say(b""), filled),
     }
 }
@@ -70,28 +73,47 @@ pub(crate) fn room_of(
     add(w, b" and more")
 }
 
-// The whole name, or which of its characters are heard, into the first n bytes.
-fn fill_name(picture: &[u8], letter: u8, r: Reader, room: &mut [u8], n: usize) -> Answer {
-    if n > room.len() {
-        return Answer::Refused(NO_CALL);
+// Whether the entries of a row from `from` on are as they were.
+fn untouched_from(row: &[u16], from: usize) -> bool {
+    let mut all = true;
+    let mut i = from;
+    while i < row.len() {
+        all = both(all, row[i] == UNTOUCHED);
+        i += 1;
     }
-    if letter == b'n' {
-        return questions::name(picture, AddressAsked(r.a), r.b, &mut room[0..n]);
-    }
-    questions::name_heard(picture, AddressAsked(r.a), r.b, &mut room[0..n])
+    all
 }
 
-pub(crate) fn name(letter: u8, r: Reader, picture: &[u8]) -> Words {
+// The row of a name, into the first n entries.
+fn fill_name(picture: &[u8], r: Reader, row: &mut [u16], n: usize) -> Answer {
+    if n > row.len() {
+        return Answer::Refused(NO_CALL);
+    }
+    questions::name(picture, AddressAsked(r.a), r.b, &mut row[0..n])
+}
+
+// How many characters are heard, and the characters; or the refusal.
+fn named(a: Answer, characters: &[u16]) -> Words {
+    match a {
+        Answer::Value(count) => add_characters(
+            add(add_decimal(say(b""), count as u64), b" heard"),
+            characters,
+        ),
+        Answer::NotHeard => say(b" not heard"),
+        Answer::Refused(n) => refused(n),
+    }
+}
+
+pub(crate) fn name(r: Reader, picture: &[u8]) -> Words {
     let n = if r.found == 2 { NAME_ROOM } else { r.c };
-    let mut room = [b'.'; ROOM];
-    let refusal = refusal(fill_name(picture, letter, r, &mut room, n as usize));
-    room_of(
-        letter,
-        refusal,
-        &room,
-        0,
-        if refusal == 0 { NAME } else { 0 },
-    )
+    let mut row = [UNTOUCHED; ENTRIES];
+    let a = fill_name(picture, r, &mut row, n as usize);
+    let filled = if refusal(a) == 0 { NAME } else { 0 };
+    let w = named(a, &row[0..NAME]);
+    if untouched_from(&row, filled) {
+        return w;
+    }
+    add(w, b" and more")
 }
 
 // An entry of a row after the call.

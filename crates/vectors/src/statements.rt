@@ -50,7 +50,7 @@ fn apart(letter: u8, r: Reader, data: &[u8]) -> Words {
 fn asked(letter: u8, r: Reader, data: &[u8], picture: &[u8]) -> Words {
     match letter {
         b'K' | b'T' | b'Y' | b'V' | b'C' | b'L' | b'I' => pictures::asked(letter, r, picture),
-        b'n' | b'c' => rows::name(letter, r, picture),
+        b'n' => rows::name(r, picture),
         b'R' => rows::row(r, picture),
         b'A' => rows::listed(r, picture),
         _ => apart(letter, r, data),
@@ -221,8 +221,6 @@ led H D                       L
 blind H D                     I
 name H D                      n
 name H D into D               n
-characters H D                c
-characters H D into D         c
 row H into D entry H          R
 listed H into D               A
 picture of D bytes            S

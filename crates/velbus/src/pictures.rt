@@ -9,7 +9,7 @@ ghost use Rattle.places.specs.Layout.{size};
 ghost use Rattle.picture.specs.Hearing.{hearing};
 ghost use Rattle.picture.specs.Stepping.{steppingBack};
 ghost use Rattle.picture.specs.Fresh.{fresheningWith, freshening};
-ghost use Rattle.questions.specs.Question.{type-of, build-year, build-week, cell, led, blind, name-heard, whole-name, memory-bytes};
+ghost use Rattle.questions.specs.Question.{type-of, build-year, build-week, cell, led, blind, name-bytes, memory-bytes};
 ghost use Rattle.questions.specs.Replies.{keptAnswer, listing, reply};
 ghost use Rattle.velbus.specs.Words.{outcomeWord, answerWord};
 
@@ -110,19 +110,11 @@ pub extern "C" fn velbus_blind(picture: &[u8], address: u32, number: u32) -> u32
 }
 
 #[no_mangle]
-pub extern "C" fn velbus_name_heard(picture: &[u8], address: u32, name: u32, out: &mut [u8]) -> u32
-    ensures { λ r. ⌜ r ≡ answerWord (reply (now (picture .entry)) address (name-heard name) (now (out .entry)) .answer) ⌝ }
-    ensures { λ _. ⌜ now (out .exit) ≡ reply (now (picture .entry)) address (name-heard name) (now (out .entry)) .buffer ⌝ }
-{
-    answer_word(questions::name_heard(picture, AddressAsked(address), name, out))
-}
-
-#[no_mangle]
 pub extern "C" fn velbus_name(picture: &[u8], address: u32, name: u32, out: &mut [u8]) -> u32
-    ensures { λ r. ⌜ r ≡ answerWord (reply (now (picture .entry)) address (whole-name name) (now (out .entry)) .answer) ⌝ }
-    ensures { λ _. ⌜ now (out .exit) ≡ reply (now (picture .entry)) address (whole-name name) (now (out .entry)) .buffer ⌝ }
+    ensures { λ r. ⌜ r ≡ answerWord (reply (now (picture .entry)) address (name-bytes name) (now (out .entry)) .answer) ⌝ }
+    ensures { λ _. ⌜ now (out .exit) ≡ reply (now (picture .entry)) address (name-bytes name) (now (out .entry)) .buffer ⌝ }
 {
-    answer_word(questions::name(picture, AddressAsked(address), name, out))
+    answer_word(questions::name_bytes(picture, AddressAsked(address), name, out))
 }
 
 #[no_mangle]

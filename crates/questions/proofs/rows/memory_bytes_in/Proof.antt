@@ -1,6 +1,6 @@
 -- `questions::rows::memory_bytes_in` meets its contract. Assumes nothing.
 use Prim.Native.Nat.{ℕ, _*_}
-use mathlib.Core.Path.{ap}
+use mathlib.Core.Path.{refl, ap}
 use Rattle.laws.specs.Limits.{AllBytes}
 use Rattle.places.specs.Places.{cellRow}
 use Rattle.places.specs.Head.{kindIn}
@@ -20,7 +20,7 @@ mul-n c =
 
 returns : tie.Need-returns
 unfolding bytesFill
-returns c = both-of (fill-short _ _ _ (ap (λ (k : ℕ). 2 * k) (c .before .cells-in .ensures)) (c .if1 .taken))
+returns c = both-of (fill-short _ _ _ _ (ap (λ (k : ℕ). 2 * k) (c .before .cells-in .ensures)) (c .if1 .taken))
 
 fill-bytes-requires : tie.Need-fill-bytes-requires
 fill-bytes-requires c κs =
@@ -37,7 +37,7 @@ returns-2 c =
     let start = rw (place .before .first-cell .ensures) at (place .place-at .ensures) in
     let bytes : AllBytes b = λ i. omega (arith, cells .before .before .shared-slice-known .given i) in
     both-of
-    (fill-done _ _ _ (ap (λ (k : ℕ). 2 * k) (cells .cells-in .ensures)) (place .before .before .if1 .left)
+    (fill-done _ _ _ _ (ap (λ (k : ℕ). 2 * k) (cells .cells-in .ensures)) (place .before .before .if1 .left) refl
     (row-bytes b (a .slot) (cellRow (kindIn b (a .slot))) start _ _ bytes (c .before .before .fill-bytes .ensures)))
 
 pub memory-bytes-in-spec : {M : Type 1} → statement M

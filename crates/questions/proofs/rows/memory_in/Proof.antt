@@ -1,4 +1,5 @@
 -- `questions::rows::memory_in` meets its contract. Assumes nothing.
+use mathlib.Core.Path.{refl}
 use Rattle.places.specs.Places.{cellRow}
 use Rattle.places.specs.Head.{kindIn}
 use Rattle.questions.specs.Fills.{numbersFill}
@@ -12,7 +13,7 @@ use Rattle.questions.proofs.rows.memory_in.Tie as tie
 
 returns : tie.Need-returns
 unfolding numbersFill
-returns c = both-of (fill-short _ _ _ (c .before .cells-in .ensures) (c .if1 .taken))
+returns c = both-of (fill-short _ _ _ _ (c .before .cells-in .ensures) (c .if1 .taken))
 
 fill-numbers-requires : tie.Need-fill-numbers-requires
 fill-numbers-requires c κs =
@@ -28,7 +29,7 @@ returns-2 c =
     let b = a .picture .now in
     let start = rw (place .before .first-cell .ensures) at (place .place-at .ensures) in
     both-of
-    (fill-done _ _ _ (cells .cells-in .ensures) (place .before .before .if1 .left)
+    (fill-done _ _ _ _ (cells .cells-in .ensures) (place .before .before .if1 .left) refl
     (row-numbers b (a .slot) (cellRow (kindIn b (a .slot))) start _ _ (c .before .before .fill-numbers .ensures)))
 
 pub memory-in-spec : {M : Type 1} → statement M

@@ -4,7 +4,7 @@ use mathlib.Core.Path.{_≡_, ap, _∙_}
 use lib.ListN.{getD}
 use native.Mathlib.Omega.{arith}
 use borrow.Author.Needs.{needs}
-use Rattle.questions.specs.Replies.{sumTo}
+use Rattle.questions.specs.Fills.{sumTo}
 use Rattle.questions.proofs.Filling.{sum-none, sum-more}
 use Rattle.replay.specs.Sheets.{toldNumber}
 use Rattle.replay.proofs.sheets.told_in.Statement.{statement}

@@ -3,7 +3,7 @@ use Prim.Native.Nat.{_+_, _-_, _≤_}
 use mathlib.Core.Path.{_≡_, ap, sym, _∙_}
 use native.Mathlib.Omega.{arith}
 use borrow.Author.Needs.{needs}
-use Rattle.questions.specs.Replies.{sumTo}
+use Rattle.questions.specs.Fills.{sumTo}
 use Rattle.replay.specs.Sheets.{wholeName}
 use Rattle.replay.proofs.Listings.{whole-small, sum-none, sum-more}
 use Rattle.replay.proofs.sheets.whole_names.Statement.{statement}

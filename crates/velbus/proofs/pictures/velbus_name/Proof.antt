@@ -4,7 +4,7 @@ use Rattle.velbus.proofs.pictures.velbus_name.Statement.{statement}
 use Rattle.velbus.proofs.pictures.velbus_name.Tie as tie
 
 returns : tie.Need-returns
-returns c = (rw (← c .before .before .before .name .ensures .0) (c .answer-word .ensures), c .before .before .before .name .ensures .1)
+returns c = let filled = c .before .before .before .name-bytes .ensures in (rw (← filled .0) (c .answer-word .ensures), filled .1)
 
 pub velbus-name-spec : {M : Type 1} → statement M
 velbus-name-spec = tie.close (tie.spec (λ c κs. search needs) (λ c κs. search needs) (λ c. search needs) returns)
