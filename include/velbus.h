@@ -22,7 +22,7 @@
 extern "C" {
 #endif
 
-#define VELBUS_VERSION "3.0.0"    /* velbus.pc takes it from here */
+#define VELBUS_VERSION "4.0.0"    /* velbus.pc takes it from here */
 
 /* ---- refusal numbers ---- */
 #define VELBUS_BAD_IDENTIFIER 1   /* identifier above 2047 */
@@ -168,7 +168,7 @@ uint32_t velbus_led(const uint8_t *picture, size_t picture_len, uint32_t address
 uint32_t velbus_blind(const uint8_t *picture, size_t picture_len, uint32_t address, uint32_t blind);
 
 /* The characters of a name, from 1, two bytes each, low byte first: 0 to 255, or VELBUS_UNKNOWN. Value: how many of them were heard; the name
- * is whole exactly if that is VELBUS_NAME_LENGTH. Refuses 5, 12, 13. */
+ * is whole exactly if that is VELBUS_NAME_LENGTH. A VMB8IR's characters are cells of its memory, 16 a name, from cell 0. Refuses 5, 12, 13. */
 uint32_t velbus_name(const uint8_t *picture, size_t picture_len, uint32_t address, uint32_t name, uint8_t *out,
                      size_t out_len);
 

@@ -43,7 +43,7 @@ say(700, INPUT_B, bytes([0xCB]))
 for start in range(0, 128, 4):
     say(25, INPUT_B, bytes([0xCC, 0x00, start] + [(start * 3 + i) & 0xFF for i in range(4)]))
 
-# names, in the order in which the modules sent them; two of them never came whole
+# names, in the order in which the modules sent them; two of them never came whole, but the dumps told the cells that they live in
 say(1500, INPUT_A, bytes([0xEF, 0x01]))
 name(INPUT_A, 0x01, "Board light", (0, 1, 2))
 say(80, INPUT_A, bytes([0xEF, 0x02]))
@@ -72,7 +72,7 @@ for lesson in range(12):
     say(700, BLIND_B, bytes([0x04, 0x03]), high=True)
     say(15, 0x50, bytes([0xFE, 0x00, 0x10, lesson]))  # a module that never said its type
 
-# one cell of the first VMB8IR is asked to change, and nobody tells what it then holds
+# one cell of the first VMB8IR, a character of its second name, is asked to change, and nobody tells what it then holds
 say(2_000, INPUT_A, bytes([0xFC, 0x00, 0x11, 0x2A]))
 
 # single cells of the first VMB1BL; the second is taken off the wall, and a VMB8IR put in its place

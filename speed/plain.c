@@ -184,12 +184,18 @@ static inline uint32_t ask(struct plain_picture *p, uint16_t *places, size_t n)
     return 0;
 }
 
+/* The first character of a name; a VMB8IR's names live in its memory. */
+static inline uint16_t *name_at(struct plain_module *m, size_t name)
+{
+    return m->kind == PLAIN_VMB8IR ? &m->cell[PLAIN_NAME_SIZE * (name - 1)] : m->character[name - 1];
+}
+
 static inline uint32_t tell_name(struct plain_picture *p, struct plain_module *m, const uint8_t *restrict data, size_t from, size_t n)
 {
     unsigned name = name_of[m->kind][data[1]];
     if (name == 0)
         return refuse_at(2);
-    return tell(p, &m->character[name - 1][from], data + 2, n);
+    return tell(p, name_at(m, name) + from, data + 2, n);
 }
 
 static const uint64_t EACH_BYTE = 0x0101010101010101;
@@ -358,13 +364,14 @@ unsigned plain_told_cells(const struct plain_module *m)
     return told;
 }
 
-unsigned plain_whole_names(const struct plain_module *m)
+unsigned plain_whole_names(struct plain_module *m)
 {
     unsigned whole = 0;
-    for (size_t n = 0; n < names_of[m->kind]; n++) {
+    for (size_t n = 1; n <= names_of[m->kind]; n++) {
+        const uint16_t *character = name_at(m, n);
         unsigned heard = 0;
         for (size_t i = 0; i < PLAIN_NAME_SIZE; i++)
-            heard += m->character[n][i] != PLAIN_UNKNOWN;
+            heard += character[i] != PLAIN_UNKNOWN;
         whole += heard == PLAIN_NAME_SIZE;
     }
     return whole;

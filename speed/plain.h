@@ -14,7 +14,7 @@ enum { PLAIN_RUN = 16 }; /* the most bytes that one frame changes, but for an en
 /* The kinds of module, numbered for the tables. */
 enum plain_kind { PLAIN_NO_MODULE, PLAIN_VMB8IR, PLAIN_VMB1BL, PLAIN_KINDS };
 
-/* A cell or character is 0 to 255 or PLAIN_UNKNOWN; an LED or a blind is a byte, 255 for unknown. */
+/* A cell or character is 0 to 255 or PLAIN_UNKNOWN (a VMB8IR's characters are cells); an LED or a blind is a byte, 255 for unknown. */
 struct plain_module {
     uint16_t cell[PLAIN_CELLS];
     uint16_t character[PLAIN_NAMES][PLAIN_NAME_SIZE];
@@ -52,7 +52,7 @@ uint32_t plain_cell(const struct plain_picture *p, uint32_t address, uint32_t lo
 uint32_t plain_memory_row(const struct plain_picture *p, uint32_t address, uint8_t *out, size_t out_len);
 
 /* For the listing: how many names are whole, and how many cells are told. */
-unsigned plain_whole_names(const struct plain_module *m);
+unsigned plain_whole_names(struct plain_module *m);
 unsigned plain_told_cells(const struct plain_module *m);
 unsigned plain_type(const struct plain_module *m);
 

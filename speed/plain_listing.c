@@ -112,7 +112,7 @@ static void print_listing(const struct tally *t)
     for (unsigned address = 0; address < 256; address++) {
         if (picture.slot[address] == PLAIN_MODULES)
             continue;
-        const struct plain_module *m = &picture.module[picture.slot[address]];
+        struct plain_module *m = &picture.module[picture.slot[address]];
         printf("%02X %02X %u %u\n", address, plain_type(m), plain_whole_names(m), plain_told_cells(m));
     }
     if (t->refusal)

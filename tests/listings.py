@@ -61,7 +61,9 @@ def named_cases():
     yield "the same type again", record(0x05, IR) + record(0x05, [0xFE, 0, 9, 9]) + record(0x05, IR), HEADER + "05 0A 0 1\n" + counts(3, 0)
     yield "names whole and not", (
         record(1, IR) + name(1, 0x01, 0xF2, 0xF0, 0xF1) + name(1, 0x02, 0xF0, 0xF1) + name(1, 0x80, 0xF2, 0xF2, 0xF2)
-    ), HEADER + "01 0A 1 0\n" + counts(9, 0)
+    ), HEADER + "01 0A 1 32\n" + counts(9, 0)
+    blocks = record(1, IR) + b"".join(record(1, [0xCC, 0, start, 1, 2, 3, 4]) for start in range(0, 32, 4))
+    yield "names that memory frames told", blocks + record(1, [0xFC, 0, 16, 0]), HEADER + "01 0A 1 31\n" + counts(10, 0)
     yield "names of a blind", (
         record(1, BL) + name(1, 0x03, 0xF0, 0xF1, 0xF2) + name(1, 0x10, 0xF2, 0xF1, 0xF0) + name(1, 0x20, 0xF2)
     ), HEADER + "01 03 2 0\n" + counts(8, 0)

@@ -51,11 +51,22 @@ static void some_leds(struct ref_module *m, unsigned named, int state)
             m->led[i] = state;
 }
 
+/* A VMB8IR's names live in its memory: character i of channel c, both from 1, is cell 16 * (c - 1) + i - 1. Both are kept here, each told with the other. */
 static void name_part(struct ref_module *m, const uint8_t *d, int from, int count)
 {
     unsigned name = ref_name_of(m->type, d[1]);
-    for (int i = 0; i < count; i++)
+    for (int i = 0; i < count; i++) {
         m->character[name - 1][from + i] = d[2 + i];
+        if (m->type == IR)
+            m->cell[16 * (name - 1) + (unsigned)(from + i)] = d[2 + i];
+    }
+}
+
+static void set_cell(struct ref_module *m, unsigned location, int value)
+{
+    m->cell[location] = value;
+    if (m->type == IR && location < 8 * 16)
+        m->character[location / 16][location % 16] = value;
 }
 
 static int is_entry(const struct ref_frame *f) { return !f->remote && f->data[0] == 0xFF; }
@@ -84,10 +95,10 @@ static void apply(struct ref_modules *all, const struct ref_frame *f)
         return;
     switch (d[0]) {
     case 0xFF: enter(all, f); break;
-    case 0xFE: m->cell[d[2]] = d[3]; break;
-    case 0xFC: m->cell[d[2]] = UNKNOWN; break;
-    case 0xCC: for (int i = 0; i < 4; i++) m->cell[d[2] + i] = d[3 + i]; break;
-    case 0xCA: for (int i = 0; i < 4; i++) m->cell[d[2] + i] = UNKNOWN; break;
+    case 0xFE: set_cell(m, d[2], d[3]); break;
+    case 0xFC: set_cell(m, d[2], UNKNOWN); break;
+    case 0xCC: for (unsigned i = 0; i < 4; i++) set_cell(m, d[2] + i, d[3 + i]); break;
+    case 0xCA: for (unsigned i = 0; i < 4; i++) set_cell(m, d[2] + i, UNKNOWN); break;
     case 0xF0: name_part(m, d, 0, 6); break;
     case 0xF1: name_part(m, d, 6, 6); break;
     case 0xF2: name_part(m, d, 12, 4); break;

@@ -12,6 +12,7 @@ use Rattle.codec.proofs.RoundTrip.{read-then-written, written-then-read, one-fr
 use Rattle.repair.proofs.Beyond.{first-beyond-repair}
 use Rattle.places.specs.Limits.{addresses}
 use Rattle.history.proofs.Speaks.{names-numbered, speaks-of}
+use Rattle.history.proofs.InMemory.{in-memory}
 use Rattle.places.proofs.Fitting.{runs-lie, runs-fit}
 use Rattle.places.proofs.Apart.{apart, inside}
 use Rattle.history.proofs.Effects.{effects, hears-command, hears-entry, hears-exchange}
@@ -50,6 +51,7 @@ demand-2 =
       runs-fit = runs-fit;
       apart = apart;
       inside = inside;
+      in-memory = in-memory;
       effects = effects;
       hears-command = hears-command;
       hears-entry = hears-entry;

@@ -16,6 +16,7 @@ use Rattle.places.specs.Limits.{addresses}
 use Rattle.places.specs.Fitting.{RunsLie, RunsFit}
 use Rattle.places.specs.Apart.{Apart, Inside}
 use Rattle.history.specs.Speaks.{NamesNumbered, SpeaksOf}
+use Rattle.history.specs.InMemory.{InMemory}
 use Rattle.history.specs.Effects.{Effects, HearsCommand, HearsEntry, HearsExchange}
 use Rattle.velbus.specs.Statements.{LaidIsHeld, ReadThenWrittenAgain, LaidIsReadBack}
 use Rattle.demands.specs.Order.{answers, verdict, writerOrder}
@@ -51,9 +52,10 @@ pub record Demand2 : Type 0 where
   pub names-numbered : NamesNumbered
   pub runs-lie : RunsLie
   pub runs-fit : RunsFit
-  -- different things have different places, each in the record
+  -- different things have different places, each in the record; the names of H'0A' live in its memory, and a character and its cell are one place
   pub apart : Apart
   pub inside : Inside
+  pub in-memory : InMemory
   -- an accepted frame changes the addressed module so, and no other
   pub effects : Effects
   pub hears-command : HearsCommand

@@ -155,6 +155,13 @@ told = heard (0xFE ∷ 0x00 ∷ 0x05 ∷ 0x2A ∷ [])
 abbrev pub change : Event
 change = heard (0xFC ∷ 0x00 ∷ 0x05 ∷ 0x07 ∷ [])
 
+-- the cell of the second character of the channel's name, 16 × (3 − 1) + 2 − 1, told and asked to change
+abbrev pub secondTold : Event
+secondTold = heard (0xFE ∷ 0x00 ∷ 0x21 ∷ 0x2A ∷ [])
+
+abbrev pub secondChange : Event
+secondChange = heard (0xFC ∷ 0x00 ∷ 0x21 ∷ 0x07 ∷ [])
+
 -- ---- the table, in the paper's order
 abbrev pub edges : List Row
 edges =
@@ -212,6 +219,10 @@ edges =
     -- FE, then FC on one cell: unknown
     ∷ asked (ir ∷ told ∷ []) (cell 5 ∷ []) (Value 0x2A ∷ [])
     ∷ asked (ir ∷ told ∷ change ∷ []) (cell 5 ∷ []) (NotHeard ∷ [])
+    -- W-204: FE on a cell of H'0A' tells the character that it is, and FC makes it unknown; a part of a name tells its cells
+    ∷ named (ir ∷ secondTold ∷ []) 16 (value 1 (256 ∷ 0x2A ∷ replicate 14 256))
+    ∷ named (ir ∷ secondTold ∷ secondChange ∷ []) 16 (value 0 (replicate 16 256))
+    ∷ asked (ir ∷ part-three ∷ []) (cell 43 ∷ cell 44 ∷ cell 47 ∷ cell 48 ∷ []) (NotHeard ∷ Value 0x4D ∷ Value 0xFF ∷ NotHeard ∷ [])
     -- depth 0: the frame stands, and no step is granted (11); depth 1: one is granted, and no second
     ∷ backAt 0 (ir ∷ told ∷ []) (outcome.Refused nothingKept)
     ∷ askedAt 0 (ir ∷ told ∷ back ∷ []) (cell 5 ∷ []) (Value 0x2A ∷ [])

@@ -2,7 +2,7 @@
 -- it has.
 use Prim.Native.Nat.{ℕ, suc, _-_}
 use mathlib.Core.List.{List, [], _∷_, _++_, map}
-use mathlib.Core.Bool.{Bool, not, cond}
+use mathlib.Core.Bool.{Bool, true, false, not, cond}
 use lib.Dec.{eqb}
 use lib.ListN.{length}
 use Rattle.laws.specs.Tests.{firstFor}
@@ -79,8 +79,8 @@ vmb1blOnly =
     ∷ row 0x06 5 high
     ∷ []
 
--- a line of the table: a type's number, its own rows, how many cells and LEDs it has, and the bytes of its channels, in the order of their
--- names, and of its blinds
+-- a line of the table: a type's number, its own rows, how many cells and LEDs it has, the bytes of its channels, in the order of their
+-- names, and of its blinds, and whether its names live in its memory
 pub record Line : Type 0 where
   pub number : ℕ
   pub rows : List Entry
@@ -88,20 +88,21 @@ pub record Line : Type 0 where
   pub channels : List ℕ
   pub blinds : List ℕ
   pub leds : ℕ
+  pub in-memory : Bool
 
-abbrev pub line : ℕ → List Entry → ℕ → List ℕ → List ℕ → ℕ → Line
-line number rows cells channels blinds leds =
-    record { number = number; rows = rows; cells = cells; channels = channels; blinds = blinds; leds = leds }
+abbrev pub line : ℕ → List Entry → ℕ → List ℕ → List ℕ → ℕ → Bool → Line
+line number rows cells channels blinds leds in-memory =
+    record { number = number; rows = rows; cells = cells; channels = channels; blinds = blinds; leds = leds; in-memory = in-memory }
 
 -- H'03': the blind, the up button and the down button
 abbrev pub blindChannels : List ℕ
 blindChannels = 0x03 ∷ 0x10 ∷ 0x20 ∷ []
 
--- number, own rows, cells, channels, blinds, LEDs
+-- number, own rows, cells, channels, blinds, LEDs, names in memory
 abbrev pub types : List Line
 types =
-    line vmb1bl vmb1blOnly 128 blindChannels (0x03 ∷ []) 0
-    ∷ line vmb8ir vmb8irOnly 256 bits [] 8
+    line vmb1bl vmb1blOnly 128 blindChannels (0x03 ∷ []) 0 false
+    ∷ line vmb8ir vmb8irOnly 256 bits [] 8 true
     ∷ []
 
 abbrev pub moduleTypes : List ℕ
@@ -113,7 +114,7 @@ handedTypes = noType ∷ moduleTypes
 
 -- the line of a number that is no type
 abbrev pub noLine : Line
-noLine = line noType [] 0 [] [] 0
+noLine = line noType [] 0 [] [] 0 false
 
 unfoldable pub lineOf : ℕ → Line
 lineOf kind = firstFor (λ (l : Line). l .number) (λ (l : Line). l) noLine types kind
@@ -129,6 +130,9 @@ blindsOf kind = lineOf kind .blinds
 
 abbrev pub ledsOf : ℕ → ℕ
 ledsOf kind = lineOf kind .leds
+
+abbrev pub namesInMemory : ℕ → Bool
+namesInMemory kind = lineOf kind .in-memory
 
 -- the last cell, and the last that a block of four can start at
 abbrev pub lastCell : ℕ → ℕ

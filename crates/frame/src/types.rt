@@ -20,6 +20,7 @@ ghost use Rattle.frame.specs.Types.{
   blindChannels,
   positionIn,
   nameOf,
+  namesInMemory,
 };
 
 pub const NO_TYPE: u32 = 0x00;
@@ -149,6 +150,17 @@ pub fn extent_of(kind: u32) -> Extent
             leds: 0,
             blinds: 0,
         },
+    }
+}
+
+// Whether the names of a type live in its memory.
+pub fn names_in_memory(kind: u32) -> bool
+    ensures { λ r. ⌜ r ≡ namesInMemory kind ⌝ }
+{
+    match kind {
+        VMB1BL => false,
+        VMB8IR => true,
+        _ => false,
     }
 }
 

@@ -17,7 +17,7 @@ use Rattle.places.specs.Limits.{room, addresses}
 use Rattle.places.specs.Places.{places, nowhere, yearPlace, weekPlace, ledPlace, blindPlace, characterPlace, cellPlace, cellAsked, ledAsked, blindAsked, hasName, Row, nameRow, cellRow}
 use Rattle.places.specs.Layout.{placeAt}
 use Rattle.places.specs.Head.{noSlot, slotOf, kindIn}
-use Rattle.places.proofs.Fitting.{extents-small}
+use Rattle.places.proofs.Fitting.{extents-small, first-small}
 use Rattle.questions.specs.Question.{Question, type-of, build-year, build-week, cell, led, blind, name-row, name-bytes, memory-row, memory-bytes, Reply, answering}
 use Rattle.questions.specs.Fills.{valueAt, heardAt, rowNumber, lowFirst as byteOf, numbersFill, bytesFill, sumTo, heardIn}
 use Rattle.questions.specs.Replies.{slotAsked, placeReply, replyAs, replyIn, reply, listedIf, listing}
@@ -127,7 +127,7 @@ module _ (b : List ℕ) (s : ℕ) (known : ℕ → Known) (cells : (p : ℕ) →
     character n i = characterPlace kind n (i + 1)
 
     named : (n : ℕ) → oneTo (extentOf kind .names) n ≡ true → (i : ℕ) → i < nameSize → character n i < places
-    named n e i l = omega (arith, counted (extentOf kind .names) n e, extents-small kind .names-small)
+    named n e i l = omega (arith, counted (extentOf kind .names) n e, extents-small kind .names-small, first-small kind)
 
     as-told : (q : Question) (out : List ℕ) → replyAs b s kind q out ≡ toldAs kind known q out
     unfolding replyAs toldAs cellAsked ledAsked blindAsked hasName

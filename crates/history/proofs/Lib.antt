@@ -24,4 +24,5 @@ pub mod Effects
 pub mod Depth
 pub mod Refused
 pub mod Speaks
+pub mod InMemory
 pub mod Worked

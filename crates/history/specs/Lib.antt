@@ -1,4 +1,4 @@
--- Read in this order: Standing and Asked (what a reader must believe), then the statements, Names, Demand3, Depth, Sentence, Effects, Speaks and Cases. Machine and Refinement are
+-- Read in this order: Standing and Asked (what a reader must believe), then the statements, Names, Demand3, Depth, Sentence, Effects, Speaks, InMemory and Cases. Machine and Refinement are
 -- steps of the proof of Demand3, which no reader has to believe.
 pub mod Standing
 pub mod Asked
@@ -9,5 +9,6 @@ pub mod Demand3
 pub mod Depth
 pub mod Sentence
 pub mod Speaks
+pub mod InMemory
 pub mod Effects
 pub mod Cases

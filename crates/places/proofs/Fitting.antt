@@ -1,6 +1,6 @@
 -- The run of an accepted frame lies at places that its type has. What the reader's definitions say is taken apart here and nowhere else.
 -- Assumes nothing.
-use Prim.Native.Nat.{ℕ, suc, _+_, _*_, _/_, _<_, _≤_}
+use Prim.Native.Nat.{ℕ, suc, _+_, _/_, _<_, _≤_}
 use native.Mathlib.Omega.{arith}
 use mathlib.Core.Path.{_≡_, refl, sym, subst}
 use mathlib.Core.Bool.{Bool, true, false, not, cond, _||_}
@@ -13,9 +13,9 @@ use Rattle.laws.specs.Tab.{tab}
 use Rattle.laws.specs.Tests.{among, unless}
 use Rattle.laws.proofs.Testing.{_&_, held, unrefused, or-right}
 use Rattle.frame.specs.Identifiers.{priorityOf, addressOf, low}
-use Rattle.frame.specs.Types.{longType, Line, types, noLine, lineOf, rowFor, isListed, cellsOf, ledsOf, blindsOf, channelsOf, lastCell, lastStart, extentOf, positionIn, nameOf}
+use Rattle.frame.specs.Types.{longType, Line, types, noLine, lineOf, rowFor, isListed, namesInMemory, cellsOf, ledsOf, blindsOf, channelsOf, lastCell, lastStart, extentOf, positionIn, nameOf}
 use Rattle.frame.specs.Bytes.{byte, dataOf, bytesOf}
-use Rattle.frame.specs.Messages.{typeCommand, locationIn, timeIn, readers, decode}
+use Rattle.frame.specs.Messages.{typeCommand, locationIn, readers, decode}
 use Rattle.frame.specs.Fields.{locationFault, channelAllowed, isBlind, fault}
 use Rattle.judging.specs.Reading.{frameRefusal, ownType, commandRefusal, commandRead, requestRead, reading}
 use Rattle.frame.specs.declared.bytes.Data.{Data}
@@ -32,7 +32,7 @@ use Rattle.laws.proofs.Keys.{every}
 use Rattle.judging.proofs.Judged.{command-held}
 use Rattle.frame.proofs.Listed.{of-line, of-listed}
 use Rattle.places.specs.Limits.{mostPlaces}
-use Rattle.places.specs.Places.{places, ledPlace, blindPlace, characterPlace, cellPlace}
+use Rattle.places.specs.Places.{places, ledPlace, blindPlace, firstCharacter, characterPlace, cellPlace}
 use Rattle.places.specs.Runs.{Run, noRun, telling, asking, buildTold, characters, someLeds, allLeds, Meaning, refuses, names, enters, meaningOf, meant, readAs}
 use Rattle.places.specs.Fitting.{endOf, Lies, in-build, in-leds, in-blinds, in-names, in-cells, LiesAs, RunsLie, FitsAs, RunsFit}
 use Rattle.places.proofs.Readers.{AllRead, read-as}
@@ -247,11 +247,20 @@ extents-small kind =
       blinds-small = at-most (λ l. length (l .blinds)) 6 refl refl kind;
     }
 
+-- the names begin at the cells, or before them
+pub first-small : (kind : ℕ) → firstCharacter kind ≤ 256
+unfolding firstCharacter
+first-small kind = go (namesInMemory kind) _ _ (omega arith) (omega arith)
+  where
+    go : (memory : Bool) (m n : ℕ) → m ≤ 256 → n ≤ 256 → cond memory m n ≤ 256
+    go true m n h k = h
+    go false m n h k = k
+
 lies-inside : {kind : ℕ} {r : Run} → Lies kind r → endOf r ≤ places
 lies-inside (in-build h) = omega arith
 lies-inside {kind} (in-leds h l) = omega (arith, extents-small kind .leds-small)
 lies-inside {kind} (in-blinds h l) = omega (arith, extents-small kind .blinds-small)
-lies-inside {kind} (in-names h l) = omega (arith, extents-small kind .names-small)
+lies-inside {kind} (in-names h l) = omega (arith, extents-small kind .names-small, first-small kind)
 lies-inside {kind} (in-cells h l) = omega (arith, extents-small kind .cells-small)
 
 pub runs-fit : RunsFit

@@ -1,8 +1,10 @@
--- Different things of a module have different places, and each of them lies in its record. The proof is proofs/Apart.antt.
-use Prim.Native.Nat.{ℕ, _<_}
+-- Different things of a module have different places, but for a character and its cell where names live in memory, which are one; and each of them
+-- lies in its record. The proof is proofs/Apart.antt.
+use Prim.Native.Nat.{ℕ, _+_, _-_, _*_, _<_}
 use mathlib.Core.Path.{_≡_}
-use mathlib.Core.Bool.{true}
-use Rattle.frame.specs.Types.{extentOf}
+use mathlib.Core.Logic.{_↔_}
+use mathlib.Core.Bool.{true, cond}
+use Rattle.frame.specs.Types.{extentOf, namesInMemory}
 use Rattle.places.specs.Places.{places, yearPlace, weekPlace, ledPlace, blindPlace, within, nameLength, characterPlace, cellPlace}
 
 -- a thing that is told or not heard
@@ -31,12 +33,18 @@ placeOf kind (blind n) = blindPlace n
 placeOf kind (character name i) = characterPlace kind name i
 placeOf kind (cell location) = cellPlace kind location
 
--- who may share a place: a thing with itself alone
-abbrev pub MayShare : ℕ → Thing → Thing → Type 0
-MayShare kind a b = a ≡ b
+-- what a thing is: where names live in memory, character i of channel c is cell 16 × (c − 1) + i − 1; and every other thing is itself
+abbrev pub is : ℕ → Thing → Thing
+is kind year = year
+is kind week = week
+is kind (led n) = led n
+is kind (blind n) = blind n
+is kind (character name i) = cond (namesInMemory kind) (cell (16 * (name - 1) + (i - 1))) (character name i)
+is kind (cell location) = cell location
 
+-- two things have one place exactly where they are the same
 abbrev pub Apart : Type 0
-Apart = (kind : ℕ) (a b : Thing) → Has kind a → Has kind b → placeOf kind a ≡ placeOf kind b → MayShare kind a b
+Apart = (kind : ℕ) (a b : Thing) → Has kind a → Has kind b → (placeOf kind a ≡ placeOf kind b) ↔ (is kind a ≡ is kind b)
 
 abbrev pub Inside : Type 0
 Inside = (kind : ℕ) (a : Thing) → Has kind a → placeOf kind a < places

@@ -1,8 +1,9 @@
--- The places of a module, one map for every type: build year, build week, LEDs, blinds, characters of names, cells. Assumes nothing.
+-- The places of a module, one map for every type: build year, build week, LEDs, blinds, characters of names, cells. Where a type's names live in
+-- its memory, a character and its cell are one place. Assumes nothing.
 use Prim.Native.Nat.{ℕ, _+_, _-_, _*_}
 use mathlib.Core.Bool.{Bool, cond, _&&_}
 use lib.Dec.{leb, ltb}
-use Rattle.frame.specs.Types.{extentOf}
+use Rattle.frame.specs.Types.{extentOf, namesInMemory}
 
 -- how many places there are, and the number that stands for no place
 abbrev pub places : ℕ
@@ -29,12 +30,15 @@ blindPlace n = 10 + (n - 1)
 abbrev pub nameLength : ℕ
 nameLength = 16
 
--- where a character and a cell lie may go by the type
-abbrev pub characterPlace : ℕ → ℕ → ℕ → ℕ
-characterPlace kind name i = 16 + nameLength * (name - 1) + (i - 1)
-
 abbrev pub cellPlace : ℕ → ℕ → ℕ
 cellPlace kind location = 256 + location
+
+-- the first character of the first name: the first cell, for a type whose names live in memory, and else a place before the cells
+unfoldable pub firstCharacter : ℕ → ℕ
+firstCharacter kind = cond (namesInMemory kind) (cellPlace kind 0) 16
+
+abbrev pub characterPlace : ℕ → ℕ → ℕ → ℕ
+characterPlace kind name i = firstCharacter kind + nameLength * (name - 1) + (i - 1)
 
 -- n counts from 1 to most
 abbrev pub within : ℕ → ℕ → Bool

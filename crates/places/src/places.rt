@@ -1,12 +1,14 @@
-// The places of a module, one map for every type: build year, build week, LEDs, blinds, characters of names, cells.
+// The places of a module, one map for every type: build year, build week, LEDs, blinds, characters of names, cells. Where a type's names live in
+// its memory, a character and its cell are one place.
 use frame::Location;
 use frame::extent_of;
+use frame::names_in_memory;
 use laws::both;
 use laws::wide32;
 ghost use mathlib.Core.Path.{_≡_};
 ghost use mathlib.Core.Bool.{cond};
-ghost use Prim.Native.Nat.{_+_, _-_};
-ghost use Rattle.places.specs.Places.{cellAsked, ledAsked, blindAsked, hasName, within, nowhere, characterPlace, cellPlace};
+ghost use Prim.Native.Nat.{_+_, _-_, _≤_};
+ghost use Rattle.places.specs.Places.{cellAsked, ledAsked, blindAsked, hasName, within, nowhere, firstCharacter, characterPlace, cellPlace};
 
 // How many places there are, and the number that stands for no place.
 pub const PLACES: usize = 512;
@@ -50,11 +52,19 @@ fn from_zero(n: u8) -> u32
     if n < 1 { 0 } else { wide32(n - 1) }
 }
 
+// Where the first character of the first name lies.
+fn first_character(kind: u8) -> u32
+    ensures { λ r. ⌜ (r ≡ firstCharacter kind) × (r ≤ 256) ⌝ }
+{
+    let memory = names_in_memory(wide32(kind));
+    if memory { CELLS } else { NAMES }
+}
+
 // Where character i of a name lies; names and characters count from 1.
 pub fn character_place(kind: u8, name: u8, i: u8) -> u32
     ensures { λ r. ⌜ r ≡ characterPlace kind name i ⌝ }
 {
-    NAMES + NAME_LENGTH * from_zero(name) + from_zero(i)
+    first_character(kind) + NAME_LENGTH * from_zero(name) + from_zero(i)
 }
 
 pub fn cell_place(kind: u8, location: Location) -> u32

@@ -1,5 +1,6 @@
 -- `questions::names::name_at` meets its contract. Assumes nothing.
 use Rattle.places.specs.Head.{kindIn}
+use Rattle.places.proofs.Fitting.{first-small}
 use Rattle.questions.proofs.Extents.{few-names}
 use borrow.Author.Needs.{needs}
 use native.Mathlib.Omega.{arith}
@@ -13,8 +14,9 @@ returns : tie.Need-returns
 returns c =
     let start = c .before .before .before .before in
     let a = start .args in
-    let q = rw (c .before .character-place .ensures) at (c .place-at .ensures) in
-    (q, omega (arith, q, start .pre, few-names (kindIn (a .picture .now) (a .slot)) (a .name) (start .pre .2)))
+    let kind = kindIn (a .picture .now) (a .slot) in
+    let q = rw (c .before .character-place .ensures, c .before .before .kind-in .ensures) at (c .place-at .ensures) in
+    (q, omega (arith, q, start .pre, few-names kind (a .name) (start .pre .2), first-small kind))
 
 pub name-at-spec : {M : Type 1} → statement M
 name-at-spec =
