@@ -1,12 +1,15 @@
-// The quick way to a record: where the longest record has room no end needs a test, and nearly every gap and word has one group or two.
-// In any doubt it is not taken, and the general way judges from the record's first byte on.
+// The quick way to a record: where the longest record has room no end needs a test, and nearly every gap and word has one group or two. A gap
+// of more groups is read by itself. In any doubt the way is not taken, and the general way judges from the record's first byte on.
 use crate::limits::LONGEST;
+use crate::limits::MOST_GAP;
 use crate::limits::MOST_WORD;
+use numbers::Found;
+use numbers::number;
 ghost use mathlib.Core.Path.{_≡_};
 ghost use Prim.Native.Nat.{_+_, _-_, _/_, _%_, _<_, _≤_};
 ghost use lib.ListN.{length};
 ghost use Rattle.numbers.specs.declared.reads.Found.the-variants.{Value};
-ghost use Rattle.recording.specs.Limits.{mostCount, countGroups};
+ghost use Rattle.recording.specs.Limits.{mostGap, mostCount, countGroups};
 ghost use Rattle.numbers.specs.Number.{numberAt};
 ghost use Rattle.recording.specs.Record.{readCount, readRecord};
 
@@ -19,9 +22,15 @@ struct Short {
     next: usize,
 }
 
+// A gap of any number of groups, and the offset past it: 0 where there is none.
+struct Gap {
+    value: u64,
+    next: usize,
+}
+
 // A record's gap and word, and the offset past them, where the count is: 0 where the quick way does not lead there.
 pub struct Head {
-    pub gap: u32,
+    pub gap: u64,
     pub word: u32,
     pub next: usize,
 }
@@ -30,6 +39,12 @@ fn no_number() -> Short
     ensures { λ r. ⌜ r .next ≡ 0 ⌝ }
 {
     Short { value: 0, next: 0 }
+}
+
+fn no_gap() -> Gap
+    ensures { λ r. ⌜ r .next ≡ 0 ⌝ }
+{
+    Gap { value: 0, next: 0 }
 }
 
 fn no_head() -> Head
@@ -71,6 +86,35 @@ fn short_number(s: &[u8], at: usize, most: u32) -> Short
     }
 }
 
+// The gap at `at`, by the reader of any number of groups.
+fn long_gap(s: &[u8], at: usize) -> Gap
+    ensures { λ r. ⌜ (0 < r .next → Value (r .value) (r .next - at) ≡ numberAt (now (s .entry)) at mostGap) ⌝ }
+{
+    match number(s, at, MOST_GAP) {
+        Found::Value(value, groups) => Gap {
+            value,
+            next: at + groups,
+        },
+        Found::Ends => no_gap(),
+        Found::Bad(_) => no_gap(),
+    }
+}
+
+// The gap at `at`: one group or two are read here, for nearly every gap is such.
+fn quick_gap(s: &[u8], at: usize) -> Gap
+    requires { ⌜ at + 1 < length (now s) ⌝ }
+    ensures { λ r. ⌜ (0 < r .next → Value (r .value) (r .next - at) ≡ numberAt (now (s .entry)) at mostGap) ⌝ }
+{
+    let short = short_number(s, at, MOST_SHORT);
+    if short.next == 0 {
+        return long_gap(s, at);
+    }
+    Gap {
+        value: short.value as u64,
+        next: short.next,
+    }
+}
+
 // The gap and the word of the record at `at`.
 pub(crate) fn quick_head(s: &[u8], at: usize) -> Head
     requires { ⌜ at < length (now s) ⌝ }
@@ -80,7 +124,7 @@ pub(crate) fn quick_head(s: &[u8], at: usize) -> Head
     if s.len() - at < LONGEST {
         return no_head();
     }
-    let gap = short_number(s, at, MOST_SHORT);
+    let gap = quick_gap(s, at);
     if gap.next == 0 {
         return no_head();
     }

@@ -119,7 +119,7 @@ pub fn read_record(s: &[u8], at: usize) -> Entry
             let start = count_at + 1;
             let next = start + len;
             return Entry::Record {
-                gap: head.gap as u64,
+                gap: head.gap,
                 identifier: head.word / 2,
                 remote: head.word % 2,
                 start,

@@ -30,7 +30,7 @@ add-next c = omega (arith, room (c .before .before))
 
 returns-2 : tie.Need-returns-2
 returns-2 c =
-    let n = c .before .before .before .before .before in
+    let n = c .before .before .before .before in
     let s = n .before .before .before .before .args .s .now in
     let q = n .before .quick-head in
     let h = q .result in
@@ -46,7 +46,6 @@ read-record-spec =
     cast-len
     add-start
     add-next
-    (λ c. search needs)
     returns-2
     (λ c κs. search needs)
     (λ c. search needs))
