@@ -20,7 +20,7 @@ use Rattle.places.specs.Result.{Result, refusing, done}
 use Rattle.places.specs.Head.{short, modulesOf, keptOf, kindIn}
 use Rattle.picture.specs.Hearing.{naming, exchangedBytes, enteredBytes, entering, hearingAs, hearingAt, hearing}
 use Rattle.picture.specs.Stepping.{steppingBack}
-use Rattle.picture.specs.Fresh.{freshBytes, fresheningWith, freshening}
+use Rattle.steering.specs.Fresh.{freshBytes, fresheningWith, freshening}
 use Rattle.picture.proofs.Meant.{not-type, names-run, type-by}
 use Rattle.history.specs.Standing.{Event, hear}
 use Rattle.history.specs.Demand3.{doing}

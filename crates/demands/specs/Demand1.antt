@@ -21,7 +21,7 @@ use Rattle.places.specs.Answers.{outcomeNumbers, answerNumbers}
 use Rattle.places.specs.Result.{Result}
 use Rattle.picture.specs.Hearing.{hearing}
 use Rattle.picture.specs.Stepping.{steppingBack}
-use Rattle.picture.specs.Fresh.{fresheningWith, freshening}
+use Rattle.steering.specs.Fresh.{fresheningWith, freshening}
 use Rattle.questions.specs.Question.{Question, Reply}
 use Rattle.questions.specs.Replies.{keptAnswer, listing, reply}
 use Rattle.recording.specs.declared.writes.Put.{Put}

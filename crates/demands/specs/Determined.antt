@@ -9,7 +9,7 @@ use Rattle.judging.specs.Reading.{reading}
 use Rattle.places.specs.Result.{Result}
 use Rattle.picture.specs.Hearing.{hearing}
 use Rattle.picture.specs.Stepping.{steppingBack}
-use Rattle.picture.specs.Fresh.{fresheningWith, freshening}
+use Rattle.steering.specs.Fresh.{fresheningWith, freshening}
 use Rattle.questions.specs.Question.{Question, Reply}
 use Rattle.questions.specs.Replies.{listing, reply}
 use Rattle.numbers.specs.Write.{putGroups, putInto}

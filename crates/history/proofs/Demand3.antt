@@ -13,8 +13,7 @@ use Rattle.places.specs.declared.answers.Answer.the-variants.{Value}
 use Rattle.places.specs.Layout.{countAt, keptAt, depthAt, headSize, size}
 use Rattle.places.specs.Limits.{mostDepth}
 use Rattle.places.specs.Head.{modulesOf, keptOf, depthOf}
-use Rattle.picture.specs.Stores.{zeroed}
-use Rattle.picture.specs.Fresh.{freshBytes, fresheningWith}
+use Rattle.steering.specs.Fresh.{zeroed, freshBytes, fresheningWith}
 use Rattle.questions.specs.Replies.{keptAnswer}
 use Rattle.history.specs.Standing.{outcomeOf, Event, deepest, standing, kept}
 use Rattle.history.specs.Machine.{State, Step, fresh, step, run}

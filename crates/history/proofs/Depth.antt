@@ -9,7 +9,7 @@ use Rattle.laws.specs.Refusals.{nothingKept}
 use Rattle.places.specs.Limits.{mostDepth}
 use Rattle.places.specs.Layout.{size}
 use Rattle.places.specs.declared.answers.Outcome.the-variants.{Refused}
-use Rattle.picture.specs.Fresh.{fresheningWith, freshening}
+use Rattle.steering.specs.Fresh.{fresheningWith, freshening}
 use Rattle.history.specs.Standing.{Frame, Judgement, refused, accepted, exchanged, judgement, outcomeOf, Event, hear, back, stands, struck, counted, standing, kept, granted, answered}
 use Rattle.history.specs.Depth.{DepthsNamed, KeptToDepth, StillStands, NoneAtZero}
 use Rattle.history.proofs.Demand3.{demand-3}

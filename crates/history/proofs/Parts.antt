@@ -16,7 +16,7 @@ use Rattle.places.specs.Limits.{room, ring, addresses, mostPlaces}
 use Rattle.places.specs.Places.{places}
 use Rattle.places.specs.Layout.{countAt, keptAt, nextAt, depthAt, slotAt, recordSize, recordAt, kindAt, placeAt, ringAt, entrySize, oldAt, offsetAt, size}
 use Rattle.places.specs.Head.{short, modulesOf, keptOf, nextOf, depthOf, before, following}
-use Rattle.picture.specs.Log.{oneMore, stepped}
+use Rattle.steering.specs.Steps.{oneMore, stepped}
 use Rattle.picture.specs.Stepping.{offsetOf}
 use Rattle.history.specs.Machine.{Cell, Module, nobody, Undo, same, State}
 use Rattle.history.specs.Refinement.{placeOf, cellAt, oldCell, wroteAt, moduleAt, undoAt, entries, stateOf, Good}

@@ -19,7 +19,7 @@ use Rattle.places.specs.Layout.{nextAt}
 use Rattle.places.specs.Head.{modulesOf, keptOf, nextOf, depthOf, before, noSlot}
 use Rattle.places.specs.Result.{Result, refusing, done}
 use Rattle.places.proofs.Fitting.{runs-fit}
-use Rattle.picture.specs.Log.{stepped}
+use Rattle.steering.specs.Steps.{stepped}
 use Rattle.picture.specs.Hearing.{toldBytes, sameBytes, isEmpty, naming, enteredBytes, exchangedBytes, entering, hearingAs, hearingAt, hearing}
 use Rattle.picture.specs.Stepping.{undone, backOver, steppingBack}
 use Rattle.history.specs.Standing.{Frame, address, sense, meaning, exchanged, outcomeOf, hear, back}

@@ -15,7 +15,8 @@ use Rattle.laws.specs.Tab.{tab}
 use Rattle.laws.proofs.Tab.{tab-set}
 use Rattle.places.specs.Layout.{placeAt}
 use Rattle.places.specs.Runs.{Saying, silent, asks, tells}
-use Rattle.picture.specs.Stores.{pair, putAt, written, blanked, stored, copied, zeroed}
+use Rattle.steering.specs.Fresh.{zeroed}
+use Rattle.picture.specs.Stores.{pair, putAt, written, blanked, stored, copied}
 use Rattle.questions.specs.Fills.{filledTo}
 use Rattle.history.specs.Standing.{unknown}
 use Rattle.history.specs.Machine.{Cell, put, write}

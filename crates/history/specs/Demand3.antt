@@ -13,7 +13,7 @@ use Rattle.places.specs.Result.{Result}
 use Rattle.places.specs.Layout.{size}
 use Rattle.picture.specs.Hearing.{hearing}
 use Rattle.picture.specs.Stepping.{steppingBack}
-use Rattle.picture.specs.Fresh.{fresheningWith}
+use Rattle.steering.specs.Fresh.{fresheningWith}
 use Rattle.questions.specs.Question.{Question}
 use Rattle.questions.specs.Replies.{reply, keptAnswer, listing}
 use Rattle.history.specs.Standing.{Frame, Known, typeOf, latest, listed, Event, hear, back, deepest, standing, kept, answered, outcomeOf}

@@ -7,7 +7,7 @@ use Rattle.laws.specs.Refusals.{nothingKept, noSuchPlace}
 use Rattle.places.specs.declared.answers.Outcome.the-variants.{Done, Refused}
 use Rattle.places.specs.Result.{refusing}
 use Rattle.places.specs.Layout.{size}
-use Rattle.picture.specs.Fresh.{fresheningWith, freshening}
+use Rattle.steering.specs.Fresh.{fresheningWith, freshening}
 use Rattle.history.specs.Standing.{Frame, accepted, judgement, Event, hear, back, deepest, standing, kept}
 use Rattle.history.specs.Demand3.{doing, runBytes}
 

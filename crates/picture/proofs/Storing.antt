@@ -16,8 +16,9 @@ use Rattle.places.specs.Layout.{placeAt}
 use Rattle.places.specs.Places.{places}
 use Rattle.places.specs.Runs.{Run, Saying}
 use Rattle.places.specs.Head.{nextOf}
-use Rattle.picture.specs.Stores.{pair, putAt, written, blanked, stored, copied, zeroed}
-use Rattle.picture.specs.Log.{saved, stepped}
+use Rattle.picture.specs.Stores.{pair, putAt, written, blanked, stored, copied}
+use Rattle.steering.specs.Steps.{stepped}
+use Rattle.picture.specs.Log.{saved}
 use Rattle.picture.specs.Hearing.{toldBytes}
 
 pub next-small : (b : List ℕ) → nextOf b < ring
@@ -35,17 +36,9 @@ pub blanked-more :
 unfolding blanked
 blanked-more b o n p d e q = rw (add-one, ← p) (rw (d, e) at q)
 
-pub zeroed-more : (b : List ℕ) (n : ℕ) {x y : List ℕ} → x ≡ zeroed b n → y ≡ set x n 0 → y ≡ zeroed b (n + 1)
-unfolding zeroed
-zeroed-more b n p q = rw (add-one, ← p) q
-
 pub blanked-none : (b : List ℕ) (o : ℕ) → b ≡ blanked b o 0
 unfolding blanked
 blanked-none b o = refl
-
-pub zeroed-none : (b : List ℕ) → b ≡ zeroed b 0
-unfolding zeroed
-zeroed-none b = refl
 
 -- ---- an unknown record in two halves
 blanked-on : (b : List ℕ) (o m n : ℕ) → blanked (blanked b o m) (o + 2 * m) n ≡ blanked b o (m + n)

@@ -13,7 +13,8 @@ use Rattle.places.specs.Result.{Result, refusing, done}
 use Rattle.places.specs.Layout.{countAt, keptAt, slotAt, recordAt, kindAt, placeAt}
 use Rattle.places.specs.Head.{short, modulesOf, slotOf, kindIn}
 use Rattle.picture.specs.Stores.{written, blanked}
-use Rattle.picture.specs.Log.{didNothing, didEnter, noted, saved, stepped}
+use Rattle.steering.specs.Steps.{stepped}
+use Rattle.picture.specs.Log.{didNothing, didEnter, noted, saved}
 
 -- a run heard by the module in slot s
 unfoldable pub toldBytes : List ℕ → ℕ → Run → List ℕ

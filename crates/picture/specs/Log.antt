@@ -1,11 +1,9 @@
 -- The log, from which a step back is undone. Assumes nothing.
-use Prim.Native.Nat.{ℕ, suc, _+_, _*_, _/_, _%_}
-use mathlib.Core.Bool.{cond}
+use Prim.Native.Nat.{ℕ, _+_, _*_, _/_, _%_}
 use mathlib.Core.List.{List, [], _∷_}
-use lib.Dec.{ltb}
-use lib.ListN.{getD, set}
-use Rattle.places.specs.Layout.{keptAt, nextAt, placeAt, oldSize, oldAt, offsetAt}
-use Rattle.places.specs.Head.{keptOf, nextOf, depthOf}
+use lib.ListN.{getD}
+use Rattle.places.specs.Layout.{placeAt, oldSize, oldAt, offsetAt}
+use Rattle.places.specs.Head.{nextOf}
 use Rattle.picture.specs.Stores.{stored, copied}
 
 -- an entry's offset where nothing was written, and where a module was entered
@@ -32,10 +30,3 @@ noted b offset = notedAt b (nextOf b) offset
 -- the bytes of eight places from the place start on, as they are, and where they lie, into the next entry
 unfoldable pub saved : List ℕ → ℕ → ℕ → List ℕ
 saved b s start = notedAt (copied b (oldAt (nextOf b)) (placeAt s start) oldSize) (nextOf b) (placeAt s start)
-
--- one step more is kept, up to the depth, and the ring moves on
-abbrev pub oneMore : List ℕ → List ℕ
-oneMore b = cond (ltb (keptOf b) (depthOf b)) (set b keptAt (suc (keptOf b))) b
-
-unfoldable pub stepped : List ℕ → List ℕ
-stepped b = set (oneMore b) nextAt ((getD b nextAt 0 + 1) % 256)

@@ -43,8 +43,3 @@ copyOne b to from = set b to (getD b from 0)
 unfoldable pub copied : List ℕ → ℕ → ℕ → ℕ → List ℕ
 copied b to from zero = b
 copied b to from (suc n) = copyOne (copied b to from n) (to + n) (from + n)
-
--- the first n bytes, made 0
-unfoldable pub zeroed : List ℕ → ℕ → List ℕ
-zeroed b zero = b
-zeroed b (suc n) = set (zeroed b n) n 0

@@ -2,7 +2,6 @@
 use crate::commands::tell_command;
 use crate::log::DID_ENTER;
 use crate::log::note;
-use crate::log::step_on;
 use crate::records::new_record;
 use crate::telling::pass;
 use crate::telling::tell_build;
@@ -26,6 +25,7 @@ use places::next_of;
 use places::put_at;
 use places::slot_at;
 use places::slot_of;
+use steering::step_on;
 ghost use mathlib.Core.Path.{_≡_};
 ghost use Prim.Native.Nat.{_<_, _≤_};
 ghost use lib.ListN.{length};

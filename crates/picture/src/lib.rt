@@ -1,6 +1,5 @@
-// The picture of up to 16 modules, in bytes that the caller lends: hearing a frame, stepping back, and a fresh picture.
+// The picture of up to 16 modules, in bytes that the caller lends: hearing a frame, and stepping back.
 mod bytes;
-mod clearing;
 mod commands;
 mod hearing;
 mod leds;
@@ -9,8 +8,8 @@ mod records;
 mod stepping;
 mod telling;
 
-pub use clearing::fresh;
-pub use clearing::fresh_with;
 pub use hearing::hear;
 pub use places::SIZE;
+pub use steering::fresh;
+pub use steering::fresh_with;
 pub use stepping::step_back;

@@ -1,23 +1,17 @@
 // The ring of log entries, from which a step back is undone: the bytes of eight places as they were, and where they lay.
 use crate::bytes::copy_sixteen;
 use crate::bytes::store_number;
-use laws::byte_at;
-use places::KEPT_AT;
-use places::NEXT_AT;
-use places::depth_of;
-use places::kept_of;
 use places::next_of;
 use places::offset_at;
 use places::old_at;
 use places::place_at;
-use places::put_at;
 ghost use mathlib.Core.Path.{_≡_};
 ghost use Prim.Native.Nat.{_<_, _≤_};
 ghost use lib.ListN.{length};
 ghost use Rattle.places.specs.Limits.{room, ring};
 ghost use Rattle.places.specs.Places.{places};
 ghost use Rattle.places.specs.Layout.{size};
-ghost use Rattle.picture.specs.Log.{notedAt, saved, oneMore, stepped};
+ghost use Rattle.picture.specs.Log.{notedAt, saved};
 
 // An entry's offset where nothing was written, and where a module was entered.
 pub const DID_NOTHING: u32 = 4294967295;
@@ -40,23 +34,4 @@ pub(crate) fn save(picture: &mut [u8], slot: u8, start: u32)
     let from = place_at(slot, start);
     copy_sixteen(picture, old_at(entry), from);
     note(picture, entry, from as u32);
-}
-
-// One step more, up to the depth.
-fn keep_more(picture: &mut [u8])
-    ensures { λ _. ⌜ now (picture .exit) ≡ oneMore (now (picture .entry)) ⌝ }
-{
-    let kept = kept_of(picture);
-    if kept < depth_of(picture) {
-        put_at(picture, KEPT_AT, kept + 1);
-    }
-}
-
-// One step more is kept, and the ring moves on.
-pub fn step_on(picture: &mut [u8])
-    ensures { λ _. ⌜ now (picture .exit) ≡ stepped (now (picture .entry)) ⌝ }
-{
-    let next = byte_at(picture, NEXT_AT);
-    keep_more(picture);
-    put_at(picture, NEXT_AT, std::num::wrapping_add_u8(next, 1));
 }

@@ -8,7 +8,7 @@ ghost use mathlib.Core.List.{[]};
 ghost use Rattle.places.specs.Layout.{size};
 ghost use Rattle.picture.specs.Hearing.{hearing};
 ghost use Rattle.picture.specs.Stepping.{steppingBack};
-ghost use Rattle.picture.specs.Fresh.{fresheningWith, freshening};
+ghost use Rattle.steering.specs.Fresh.{fresheningWith, freshening};
 ghost use Rattle.questions.specs.Question.{type-of, build-year, build-week, cell, led, blind, name-bytes, memory-bytes};
 ghost use Rattle.questions.specs.Replies.{keptAnswer, listing, reply};
 ghost use Rattle.velbus.specs.Words.{outcomeWord, answerWord};

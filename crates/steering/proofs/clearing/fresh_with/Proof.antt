@@ -1,11 +1,11 @@
--- `picture::clearing::fresh_with` meets its contract. Assumes nothing.
+-- `steering::clearing::fresh_with` meets its contract. Assumes nothing.
 use native.Mathlib.Omega.{arith}
 use borrow.Author.Tests.{lt-ltb, le-ltb}
 use borrow.Author.Needs.{needs}
 use Rattle.places.specs.Limits.{mostDepth}
-use Rattle.picture.specs.Fresh.{fresheningWith}
-use Rattle.picture.proofs.clearing.fresh_with.Statement.{statement}
-use Rattle.picture.proofs.clearing.fresh_with.Tie as tie
+use Rattle.steering.specs.Fresh.{fresheningWith}
+use Rattle.steering.proofs.clearing.fresh_with.Statement.{statement}
+use Rattle.steering.proofs.clearing.fresh_with.Tie as tie
 
 returns : tie.Need-returns
 unfolding fresheningWith

@@ -1,10 +1,10 @@
--- `picture::log::keep_more` meets its contract. Assumes nothing.
+-- `steering::steps::keep_more` meets its contract. Assumes nothing.
 use native.Mathlib.Omega.{arith}
 use native.Mathlib.Numerals.{add-one}
 use borrow.Author.Tests.{lt-ltb, le-ltb}
 use borrow.Author.Needs.{needs}
-use Rattle.picture.proofs.log.keep_more.Statement.{statement}
-use Rattle.picture.proofs.log.keep_more.Tie as tie
+use Rattle.steering.proofs.steps.keep_more.Statement.{statement}
+use Rattle.steering.proofs.steps.keep_more.Tie as tie
 
 returns : tie.Need-returns
 returns c =

@@ -1,8 +1,8 @@
--- `picture::log::step_on` meets its contract. Assumes nothing.
+-- `steering::steps::step_on` meets its contract. Assumes nothing.
 use borrow.Author.Needs.{needs}
-use Rattle.picture.specs.Log.{stepped}
-use Rattle.picture.proofs.log.step_on.Statement.{statement}
-use Rattle.picture.proofs.log.step_on.Tie as tie
+use Rattle.steering.specs.Steps.{stepped}
+use Rattle.steering.proofs.steps.step_on.Statement.{statement}
+use Rattle.steering.proofs.steps.step_on.Tie as tie
 
 returns : tie.Need-returns
 unfolding stepped

@@ -1,5 +1,5 @@
 -- A fresh picture: no module, nothing kept, and a depth of the way back; whatever lay in the rest is never read again. Assumes nothing.
-use Prim.Native.Nat.{ℕ}
+use Prim.Native.Nat.{ℕ, zero, suc}
 use mathlib.Core.Bool.{cond}
 use mathlib.Core.List.{List}
 use lib.Dec.{ltb}
@@ -9,7 +9,11 @@ use Rattle.places.specs.Limits.{mostDepth}
 use Rattle.places.specs.Layout.{depthAt, headSize}
 use Rattle.places.specs.Result.{Result, refusing, done}
 use Rattle.places.specs.Head.{short}
-use Rattle.picture.specs.Stores.{zeroed}
+
+-- the first n bytes, made 0
+unfoldable pub zeroed : List ℕ → ℕ → List ℕ
+zeroed b zero = b
+zeroed b (suc n) = set (zeroed b n) n 0
 
 -- the bytes of it
 abbrev pub freshBytes : List ℕ → ℕ → List ℕ

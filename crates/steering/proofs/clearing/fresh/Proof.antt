@@ -1,8 +1,8 @@
--- `picture::clearing::fresh` meets its contract. Assumes nothing.
+-- `steering::clearing::fresh` meets its contract. Assumes nothing.
 use borrow.Author.Needs.{needs}
-use Rattle.picture.specs.Fresh.{freshening}
-use Rattle.picture.proofs.clearing.fresh.Statement.{statement}
-use Rattle.picture.proofs.clearing.fresh.Tie as tie
+use Rattle.steering.specs.Fresh.{freshening}
+use Rattle.steering.proofs.clearing.fresh.Statement.{statement}
+use Rattle.steering.proofs.clearing.fresh.Tie as tie
 
 returns : tie.Need-returns
 unfolding freshening

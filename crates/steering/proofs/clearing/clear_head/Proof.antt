@@ -1,4 +1,4 @@
--- `picture::clearing::clear_head` meets its contract. Assumes nothing.
+-- `steering::clearing::clear_head` meets its contract. Assumes nothing.
 use Prim.Native.Nat.{_≤_, _-_}
 use native.Mathlib.Omega.{arith}
 use native.Mathlib.Nat.{le-antisymm}
@@ -6,10 +6,10 @@ use mathlib.Core.Path.{_≡_, refl, ap, _∙_}
 use lib.ListN.{length}
 use borrow.Author.Needs.{needs}
 use Rattle.places.specs.Layout.{headSize}
-use Rattle.picture.specs.Stores.{zeroed}
-use Rattle.picture.proofs.Storing.{zeroed-none, zeroed-more}
-use Rattle.picture.proofs.clearing.clear_head.Statement.{statement}
-use Rattle.picture.proofs.clearing.clear_head.Tie as tie
+use Rattle.steering.specs.Fresh.{zeroed}
+use Rattle.steering.proofs.Zeroed.{zeroed-none, zeroed-more}
+use Rattle.steering.proofs.clearing.clear_head.Statement.{statement}
+use Rattle.steering.proofs.clearing.clear_head.Tie as tie
 
 abbrev Inv-loop : tie.InvT-loop
 Inv-loop picture₀ i₀ picture i = (i ≤ headSize) × (length picture ≡ length picture₀) × (picture ≡ zeroed picture₀ i)

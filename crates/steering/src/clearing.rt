@@ -9,8 +9,7 @@ use places::SIZE;
 use places::put_at;
 ghost use mathlib.Core.Path.{_≡_};
 ghost use Rattle.places.specs.Layout.{headSize};
-ghost use Rattle.picture.specs.Stores.{zeroed};
-ghost use Rattle.picture.specs.Fresh.{fresheningWith, freshening};
+ghost use Rattle.steering.specs.Fresh.{zeroed, fresheningWith, freshening};
 
 // The greatest depth that may be named, and the one that naming none gives.
 const DEEPEST: u32 = MOST_DEPTH as u32;
