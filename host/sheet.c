@@ -234,7 +234,7 @@ static void print_cells(uint32_t address)
 
 static const char *type_name(uint32_t type)
 {
-    return type == VELBUS_VMB8IR ? "VMB8IR" : type == VELBUS_VMB1BL ? "VMB1BL" : "without a name here";
+    return type == VELBUS_VMB8IR ? "VMB8IR" : type == VELBUS_VMB1BL ? "VMB1BL" : type == VELBUS_VMB2BL ? "VMB2BL" : "without a name here";
 }
 
 static void print_sheet(uint32_t address)

@@ -22,7 +22,7 @@
 extern "C" {
 #endif
 
-#define VELBUS_VERSION "4.0.0"    /* velbus.pc takes it from here */
+#define VELBUS_VERSION "4.1.0"    /* velbus.pc takes it from here */
 
 /* ---- refusal numbers ---- */
 #define VELBUS_BAD_IDENTIFIER 1   /* identifier above 2047 */
@@ -48,6 +48,7 @@ extern "C" {
 
 #define VELBUS_NO_TYPE 0x00       /* handed to velbus_read and velbus_write: the type is not known */
 #define VELBUS_VMB1BL 0x03
+#define VELBUS_VMB2BL 0x09
 #define VELBUS_VMB8IR 0x0A
 
 enum { VELBUS_LED_OFF = 0, VELBUS_LED_ON = 1, VELBUS_LED_SLOW = 2, VELBUS_LED_FAST = 3, VELBUS_LED_VERY_FAST = 4 };
@@ -67,7 +68,7 @@ enum { VELBUS_BLIND_OFF = 0, VELBUS_BLIND_UP = 1, VELBUS_BLIND_DOWN = 2 };
 /* A message as it lies in its 20 bytes; numbers of more than one byte are low byte first. A field that a message does
  * not have is 0. */
 enum {
-    VELBUS_AT_WHAT = 0,      /* which message: VELBUS_TYPE_REQUEST .. VELBUS_BLIND_DOWN_FOR */
+    VELBUS_AT_WHAT = 0,      /* which message: VELBUS_TYPE_REQUEST .. VELBUS_TYPE_VMB2BL */
     VELBUS_AT_ADDRESS = 1,   /* bus address */
     VELBUS_AT_CHANNEL = 2,   /* channel, blind or button, as on the bus */
     VELBUS_AT_GLOW = 3,      /* LED state of VELBUS_LEDS */
@@ -94,7 +95,7 @@ enum {
     VELBUS_NAME_ONE = 13,     /* F0: channel, six bytes */
     VELBUS_NAME_TWO = 14,     /* F1: channel, six bytes */
     VELBUS_NAME_THREE = 15,   /* F2: channel, four bytes */
-    VELBUS_NAME_ASKED = 16,   /* EF: channel; of a VMB1BL any of its channels put together (bitwise or) */
+    VELBUS_NAME_ASKED = 16,   /* EF: channel; of a VMB1BL or VMB2BL any of its channels put together (bitwise or) */
     VELBUS_STATUS_ASKED = 17, /* FA: channel */
     VELBUS_INPUT_STATUS = 18, /* EB: four bytes */
     VELBUS_LEDS_ALL = 19,     /* F4: bytes on, slow, fast */
@@ -102,7 +103,8 @@ enum {
     VELBUS_BLIND_STATUS = 21, /* EC: channel, six bytes */
     VELBUS_BLIND_STOP = 22,   /* 04: channel */
     VELBUS_BLIND_UP_FOR = 23, /* 05: channel, time */
-    VELBUS_BLIND_DOWN_FOR = 24 /* 06: channel, time */
+    VELBUS_BLIND_DOWN_FOR = 24, /* 06: channel, time */
+    VELBUS_TYPE_VMB2BL = 25   /* FF: bytes time-outs (bits 0 and 1 blind 1's, 2 and 3 blind 2's), build year, build week */
 };
 
 enum { VELBUS_NO_TIME = 0, VELBUS_DIP_SWITCH = 1, VELBUS_PERMANENTLY = 2, VELBUS_SECONDS = 3 };

@@ -18,20 +18,20 @@ from recording import number, record
 SMALL, LARGE, LONG = 1, 3, 300  # how many parts of a recording each size holds
 PART = 1000  # records of a part of the random traffic
 
-IR, BL = 0x0A, 0x03
+IR, BL, BL2 = 0x0A, 0x03, 0x09
 MODULES = [(0x10 + 7 * i, IR if i % 2 == 0 else BL) for i in range(16)]
 LENGTHS = {
     0x00: 4, 0xFE: 4, 0xCC: 7, 0xDA: 4, 0xF0: 8, 0xF1: 8, 0xF2: 6, 0xEF: 2, 0xFA: 2, 0xFD: 3, 0xC9: 3, 0xCB: 1, 0xFC: 4, 0xCA: 7,
     0xD9: 1, 0xEB: 5, 0xF4: 4, 0xF5: 2, 0xF6: 2, 0xF7: 2, 0xF8: 2, 0xF9: 2, 0xEC: 8, 0x04: 2, 0x05: 5, 0x06: 5,
 }
-OF_ONE = {IR: (0xEB, 0xF4, 0xF5, 0xF6, 0xF7, 0xF8, 0xF9), BL: (0xEC, 0x04, 0x05, 0x06)}  # commands that only one type has
+OF_ONE = {IR: (0xEB, 0xF4, 0xF5, 0xF6, 0xF7, 0xF8, 0xF9), BL: (0xEC, 0x04, 0x05, 0x06)}  # commands that only one of these types has
 HIGH = (0x00, 0x04, 0x05, 0x06)
 LOCATED = (0xFE, 0xFD, 0xFC, 0xCC, 0xC9, 0xCA)
 NAMED = (0xF0, 0xF1, 0xF2, 0xEF)
 
 
 def entry(address, kind):
-    return record(address, [0xFF, IR, 0x4C, 0x11, 1, 0x0C, 5] if kind == IR else [0xFF, BL, 2, 0x0B, 0x1E], gap=35)
+    return record(address, [0xFF, IR, 0x4C, 0x11, 1, 0x0C, 5] if kind == IR else [0xFF, kind, 2, 0x0B, 0x1E], gap=35)
 
 
 def dump():
@@ -43,8 +43,8 @@ def dump():
     return b"".join(out)
 
 
-def likely_data(rng, command):
-    """A frame of the command that both types allow, where they have it."""
+def likely_data(rng, command, kind=BL):
+    """A frame of the command that every type allows, where it has it; to either blind of a VMB2BL."""
     data = [command] + [rng.randrange(256) for _ in range(LENGTHS[command] - 1)]
     if command in LOCATED:
         data[1:3] = [0, rng.randrange(0, 128, 4)]
@@ -52,9 +52,9 @@ def likely_data(rng, command):
         data[1] = rng.choice((0x10, 0x20))
         data[-1] = 0xFF if command == 0xF2 else data[-1]
     elif command in (0x04, 0x05, 0x06, 0xFA, 0xEC):
-        data[1] = 0x03
+        data[1] = rng.choice((0x03, 0x0C)) if kind == BL2 else 0x03
     if command == 0xEC:
-        data[2:5] = [rng.randrange(4), rng.randrange(3), rng.choice((0, 1, 2, 128))]
+        data[2:5] = [rng.randrange(4), rng.randrange(3) * (4 if data[1] == 0x0C else 1), rng.choice((0, 1, 2, 128))]
     elif command == 0x00:
         data[1:] = [byte & 0x33 for byte in data[1:]]
     return data
@@ -90,9 +90,9 @@ def traffic(rng):
 
 
 def sweep(rng):
-    """Each command at each length and priority, and each value of each byte of the frames that have a length; for both types."""
+    """Each command at each length and priority, and each value of each byte of the frames that have a length; for every type."""
     out = []
-    for address, kind in ((0x21, IR), (0x31, BL), (0x41, None)):
+    for address, kind in ((0x21, IR), (0x31, BL), (0x51, BL2), (0x41, None)):
         out += [entry(address, kind)] if kind else []
         for command in range(256):
             for length in range(1, 9):
@@ -101,11 +101,12 @@ def sweep(rng):
         for command in LENGTHS:
             for at in range(1, LENGTHS[command]):
                 for value in range(256):
-                    data = likely_data(rng, command)
+                    data = likely_data(rng, command, kind)
                     data[at] = value
                     out.append(record(address, data, 0, 0 if command in HIGH else 3))
         for value in range(256):
             out.append(record(address, [0xFF, BL, value, 1, 2]))
+            out.append(record(address, [0xFF, BL2, value, 1, 2]))
             out.append(record(address, [0xFF, value, 0, 0, 1, 2, 3]))
             out += [entry(address, kind)] if kind else []
         for word in range(4096):

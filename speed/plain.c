@@ -37,38 +37,52 @@ struct rule {
 #define H(length) FORM(length, HIGH)
 #define L(length) FORM(length, LOW)
 
-#define OF_BOTH(last_cell, last_start)                                                                                            \
+#define OF_EVERY(last_cell, last_start)                                                                                           \
     [0xFE] = {L(4), CELL_TOLD, last_cell}, [0xFD] = {L(3), LOCATION_ASKED, last_cell}, [0xFC] = {L(4), CELL_SET, last_cell},      \
     [0xCC] = {L(7), BLOCK_TOLD, last_start}, [0xC9] = {L(3), LOCATION_ASKED, last_start}, [0xCA] = {L(7), BLOCK_SET, last_start}, \
     [0xF0] = {L(8), NAME_ONE, 0}, [0xF1] = {L(8), NAME_TWO, 0}, [0xF2] = {L(6), NAME_THREE, 0}, [0xEF] = {L(2), NAME_ASKED, 0},   \
     [0xDA] = {L(4), FREE, 0}, [0xCB] = {L(1), FREE, 0}, [0xD9] = {L(1), FREE, 0}
 
+#define OF_BLINDS                                                                                                                 \
+    [0xFA] = {L(2), STATUS_ASKED, 0}, [0xEC] = {L(8), BLIND_STATUS, 0}, [0x04] = {H(2), BLIND_MOVED, 0},                          \
+    [0x05] = {H(5), BLIND_MOVED, 0}, [0x06] = {H(5), BLIND_MOVED, 0}
+
 static const struct rule rules[PLAIN_KINDS][256] = {
-    [PLAIN_VMB8IR] = {OF_BOTH(0xFF, 0xFC), [0x00] = {H(4), FREE, 0}, [0xFA] = {L(2), FREE, 0}, [0xEB] = {L(5), INPUT_STATUS, 0},
+    [PLAIN_VMB8IR] = {OF_EVERY(0xFF, 0xFC), [0x00] = {H(4), FREE, 0}, [0xFA] = {L(2), FREE, 0}, [0xEB] = {L(5), INPUT_STATUS, 0},
                       [0xF4] = {L(4), LEDS_ALL, 0}, [0xF5] = {L(2), LEDS, 0}, [0xF6] = {L(2), LEDS, 0},
                       [0xF7] = {L(2), LEDS, 0}, [0xF8] = {L(2), LEDS, 0}, [0xF9] = {L(2), LEDS, 0}},
-    [PLAIN_VMB1BL] = {OF_BOTH(0x7F, 0x7C), [0x00] = {H(4), BUTTONS, 0}, [0xFA] = {L(2), STATUS_ASKED, 0},
-                      [0xEC] = {L(8), BLIND_STATUS, 0}, [0x04] = {H(2), BLIND_MOVED, 0}, [0x05] = {H(5), BLIND_MOVED, 0},
-                      [0x06] = {H(5), BLIND_MOVED, 0}},
+    [PLAIN_VMB1BL] = {OF_EVERY(0x7F, 0x7C), OF_BLINDS, [0x00] = {H(4), BUTTONS, 0}},
+    [PLAIN_VMB2BL] = {OF_EVERY(0xFF, 0xFC), OF_BLINDS, [0x00] = {H(4), FREE, 0}},
 };
 
 /* The name that a channel byte stands for, from 1; 0 where it stands for none. */
 static const uint8_t name_of[PLAIN_KINDS][256] = {
     [PLAIN_VMB8IR] = {[0x01] = 1, [0x02] = 2, [0x04] = 3, [0x08] = 4, [0x10] = 5, [0x20] = 6, [0x40] = 7, [0x80] = 8},
     [PLAIN_VMB1BL] = {[0x03] = 1, [0x10] = 2, [0x20] = 3},
+    [PLAIN_VMB2BL] = {[0x03] = 1, [0x0C] = 2, [0x10] = 3, [0x20] = 4, [0x40] = 5, [0x80] = 6},
 };
 
-enum { BLIND_CHANNEL = 0x03, NO_BUTTON_BITS = 0xCC, END_OF_BUTTON_NAME = 0xFF };
+enum { NO_BUTTON_BITS = 0xCC, END_OF_BUTTON_NAME = 0xFF };
+
+/* The blind that a byte stands for, from 1, on a module with blinds; 0 where it stands for none. */
+static inline unsigned blind_of(unsigned kind, uint8_t channel)
+{
+    return channel == 0x03 ? 1 : channel == 0x0C && kind == PLAIN_VMB2BL ? 2 : 0;
+}
 
 /* Whether names may be asked for by a byte that is no channel: several of a blind module's together. */
 static inline int names_together(unsigned kind, uint8_t byte)
 {
-    return kind == PLAIN_VMB1BL && byte != 0 && (byte & NO_BUTTON_BITS) == 0 && (byte & 3) % 3 == 0;
+    int whole = byte != 0 && (byte & 3) % 3 == 0 && (byte >> 2 & 3) % 3 == 0;
+    return whole && (kind == PLAIN_VMB2BL || (kind == PLAIN_VMB1BL && (byte & NO_BUTTON_BITS) == 0));
 }
 
-static const uint16_t cells_of[PLAIN_KINDS] = {0, 256, 128};
-static const uint8_t names_of[PLAIN_KINDS] = {0, 8, 3};
-static const uint8_t type_of[PLAIN_KINDS] = {0x00, 0x0A, 0x03};
+static const uint16_t cells_of[PLAIN_KINDS] = {0, 256, 128, 256};
+static const uint8_t names_of[PLAIN_KINDS] = {0, 8, 3, 6};
+static const uint8_t type_of[PLAIN_KINDS] = {0x00, 0x0A, 0x03, 0x09};
+
+/* The most that byte 3 of a type frame is: two bits of time-out for each blind; a VMB8IR's is free. */
+static const uint8_t timeouts_of[PLAIN_KINDS] = {0, UINT8_MAX, 0x03, 0x0F};
 
 /* ---- steps ---- */
 
@@ -131,7 +145,7 @@ static void blank(struct plain_module *m, unsigned kind, unsigned address)
     for (size_t i = 0; i < sizeof m->character / sizeof *character; i++)
         character[i] = PLAIN_UNKNOWN;
     m->leds = UINT64_MAX;
-    m->blind = UINT8_MAX;
+    m->blind[0] = m->blind[1] = UINT8_MAX;
 }
 
 /* FF: a module enters, is told again, or is exchanged. */
@@ -139,14 +153,14 @@ static uint32_t hear_type(struct plain_picture *p, unsigned address, unsigned pr
 {
     if (count < 2)
         return refuse(WRONG_LENGTH);
-    unsigned kind = data[1] == 0x0A ? PLAIN_VMB8IR : data[1] == 0x03 ? PLAIN_VMB1BL : PLAIN_NO_MODULE;
+    unsigned kind = data[1] == 0x0A ? PLAIN_VMB8IR : data[1] == 0x03 ? PLAIN_VMB1BL : data[1] == 0x09 ? PLAIN_VMB2BL : PLAIN_NO_MODULE;
     if (kind == PLAIN_NO_MODULE)
         return refuse(BAD_TYPE);
     if (count != (kind == PLAIN_VMB8IR ? 7 : 5))
         return refuse(WRONG_LENGTH);
     if (priority != LOW)
         return refuse(WRONG_PRIORITY);
-    if (kind == PLAIN_VMB1BL && data[2] > 3)
+    if (data[2] > timeouts_of[kind])
         return refuse_at(3);
     struct plain_module *m = &p->module[p->slot[address]];
     if (m->kind == kind) {
@@ -224,19 +238,27 @@ static inline uint32_t tell_some_leds(struct plain_picture *p, struct plain_modu
     return 0;
 }
 
-static inline uint32_t tell_blind(struct plain_picture *p, struct plain_module *m, uint8_t state)
+static inline uint32_t tell_blind(struct plain_picture *p, struct plain_module *m, unsigned blind, uint8_t state)
 {
-    keep(p, &m->blind);
-    m->blind = state;
+    keep(p, &m->blind[blind - 1]);
+    m->blind[blind - 1] = state;
     return 0;
 }
 
 static inline int at_most_one_bit(uint8_t b) { return (b & (b - 1)) == 0; }
 
-/* The number of the byte at fault, 0 where there is none. */
-static inline unsigned blind_status_fault(const uint8_t *d)
+/* A blind's status byte holds its state, 0 to 2, in two bits of the blind's own. */
+static inline unsigned state_in(unsigned blind, uint8_t status) { return status >> (blind == 2 ? 2 : 0); }
+
+static inline int state_allowed(unsigned blind, uint8_t status)
 {
-    return d[1] != BLIND_CHANNEL ? 2 : d[2] > 3 ? 3 : d[3] > 2 ? 4 : at_most_one_bit(d[4]) ? 0 : 5;
+    return state_in(blind, status) <= 2 && (blind == 1 || (status & 3) == 0);
+}
+
+/* The number of the byte at fault, 0 where there is none. */
+static inline unsigned blind_status_fault(unsigned blind, const uint8_t *d)
+{
+    return blind == 0 ? 2 : d[2] > 3 ? 3 : !state_allowed(blind, d[3]) ? 4 : at_most_one_bit(d[4]) ? 0 : 5;
 }
 
 static inline unsigned buttons_fault(const uint8_t *d)
@@ -246,7 +268,7 @@ static inline unsigned buttons_fault(const uint8_t *d)
 
 static inline int end_of_name_allowed(const struct plain_module *m, const uint8_t *d)
 {
-    return m->kind != PLAIN_VMB1BL || d[1] == BLIND_CHANNEL || d[5] == END_OF_BUTTON_NAME;
+    return m->kind == PLAIN_VMB8IR || blind_of(m->kind, d[1]) || d[5] == END_OF_BUTTON_NAME;
 }
 
 static inline int no_location(const uint8_t *d, const struct rule *rule) { return d[1] != 0 || d[2] > rule->last; }
@@ -280,7 +302,7 @@ static inline uint32_t act_on(struct plain_picture *p, struct plain_module *m, c
     case NAME_ASKED:
         return name_of[m->kind][d[1]] == 0 && !names_together(m->kind, d[1]) ? refuse_at(2) : step_over_nothing(p);
     case STATUS_ASKED:
-        return d[1] != BLIND_CHANNEL ? refuse_at(2) : step_over_nothing(p);
+        return blind_of(m->kind, d[1]) ? step_over_nothing(p) : refuse_at(2);
     case INPUT_STATUS:
         return tell_leds(p, m, d[2], d[3], d[4]);
     case LEDS_ALL:
@@ -288,11 +310,13 @@ static inline uint32_t act_on(struct plain_picture *p, struct plain_module *m, c
     case LEDS:
         return tell_some_leds(p, m, (uint8_t)(d[0] - 0xF5), d[1]);
     case BLIND_STATUS: {
-        unsigned fault = blind_status_fault(d);
-        return fault ? refuse_at(fault) : tell_blind(p, m, d[3]);
+        unsigned blind = blind_of(m->kind, d[1]), fault = blind_status_fault(blind, d);
+        return fault ? refuse_at(fault) : tell_blind(p, m, blind, (uint8_t)state_in(blind, d[3]));
     }
-    default: /* BLIND_MOVED */
-        return d[1] != BLIND_CHANNEL ? refuse_at(2) : tell_blind(p, m, UINT8_MAX);
+    default: { /* BLIND_MOVED */
+        unsigned blind = blind_of(m->kind, d[1]);
+        return blind ? tell_blind(p, m, blind, UINT8_MAX) : refuse_at(2);
+    }
     }
 }
 

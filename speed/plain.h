@@ -12,7 +12,7 @@ enum { PLAIN_UNKNOWN = 256 };
 enum { PLAIN_RUN = 16 }; /* the most bytes that one frame changes, but for an entry */
 
 /* The kinds of module, numbered for the tables. */
-enum plain_kind { PLAIN_NO_MODULE, PLAIN_VMB8IR, PLAIN_VMB1BL, PLAIN_KINDS };
+enum plain_kind { PLAIN_NO_MODULE, PLAIN_VMB8IR, PLAIN_VMB1BL, PLAIN_VMB2BL, PLAIN_KINDS };
 
 /* A cell or character is 0 to 255 or PLAIN_UNKNOWN (a VMB8IR's characters are cells); an LED or a blind is a byte, 255 for unknown. */
 struct plain_module {
@@ -21,9 +21,9 @@ struct plain_module {
     uint64_t leds; /* LED 1 in the lowest byte */
     uint8_t kind;
     uint8_t address;
-    uint8_t blind;
+    uint8_t blind[2];
     uint8_t build[2];
-    uint8_t past[243]; /* to 1024 bytes: a run from any field lies in the module, and a slot is found by a shift */
+    uint8_t past[242]; /* to 1024 bytes: a run from any field lies in the module, and a slot is found by a shift */
 };
 
 /* What a step back needs: bytes of the picture as they were. */

@@ -15,6 +15,7 @@ from recording import record
 HEADER = "address type names cells\n"
 IR = [0xFF, 0x0A, 0x12, 0x34, 0x01, 0x0C, 0x05]
 BL = [0xFF, 0x03, 0x00, 0x0C, 0x05]
+BL2 = [0xFF, 0x09, 0x0F, 0x0B, 0x1E]
 
 
 def name(address, channel, *parts):
@@ -58,6 +59,7 @@ def named_cases():
     yield "sixteen modules and a seventeenth", modules, HEADER + lines + counts(16, 1)
     exchanged = record(0x05, IR) + record(0x05, [0xFE, 0, 9, 9]) + name(0x05, 0x01, 0xF0, 0xF1, 0xF2) + record(0x05, BL)
     yield "an exchange", exchanged, HEADER + "05 03 0 0\n" + counts(6, 0)
+    yield "an exchange among blind modules", record(0x05, BL) + record(0x05, [0xFE, 0, 9, 9]) + record(0x05, BL2), HEADER + "05 09 0 0\n" + counts(3, 0)
     yield "the same type again", record(0x05, IR) + record(0x05, [0xFE, 0, 9, 9]) + record(0x05, IR), HEADER + "05 0A 0 1\n" + counts(3, 0)
     yield "names whole and not", (
         record(1, IR) + name(1, 0x01, 0xF2, 0xF0, 0xF1) + name(1, 0x02, 0xF0, 0xF1) + name(1, 0x80, 0xF2, 0xF2, 0xF2)
@@ -67,6 +69,9 @@ def named_cases():
     yield "names of a blind", (
         record(1, BL) + name(1, 0x03, 0xF0, 0xF1, 0xF2) + name(1, 0x10, 0xF2, 0xF1, 0xF0) + name(1, 0x20, 0xF2)
     ), HEADER + "01 03 2 0\n" + counts(8, 0)
+    yield "names of two blinds", (
+        record(1, BL2) + b"".join(name(1, channel, 0xF0, 0xF1, 0xF2) for channel in (0x03, 0x0C, 0x40, 0x80)) + record(1, [0xFE, 0, 0xFF, 0])
+    ), HEADER + "01 09 4 1\n" + counts(14, 0)
     told = record(1, BL) + b"".join(record(1, [0xFE, 0, i, 0]) for i in range(128)) + record(1, [0xFC, 0, 3, 0]) + record(1, [0xCA, 0, 8, 0, 0, 0, 0])
     yield "cells told and asked for", told, HEADER + "01 03 0 123\n" + counts(131, 0)
 

@@ -185,7 +185,7 @@ void check_blind(uint32_t address, uint32_t blind)
     const struct ref_module *m = ref_module_at(&reference, address);
     unsigned refusal = no_place(m, blind, 1, m ? ref_blinds(m->type) : 0);
     uint32_t word = velbus_blind(picture.start, picture.length, address, blind);
-    same("blind", word, answer(refusal, refusal ? 0 : (uint32_t)m->blind));
+    same("blind", word, answer(refusal, refusal ? 0 : (uint32_t)m->blind[blind - 1]));
 }
 
 void check_name(uint32_t address, uint32_t name, size_t length)

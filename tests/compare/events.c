@@ -15,7 +15,7 @@ static void ask_module(uint32_t address)
         check_cell(address, draw(3) ? draw(260) : edge());
     for (uint32_t led = 0; led <= 9; led++)
         check_led(address, led);
-    for (uint32_t blind = 0; blind <= 2; blind++)
+    for (uint32_t blind = 0; blind <= 3; blind++)
         check_blind(address, blind);
     check_name(address, draw(10), some_length(VELBUS_NAME_SIZE));
     if (draw(4) == 0)

@@ -3,9 +3,9 @@
 
 #include "velbus.h"
 
-static const uint32_t types[] = {VELBUS_VMB1BL, VELBUS_VMB8IR, VELBUS_NO_TYPE, 0x09, 0xFFFFFFFF};
+static const uint32_t types[] = {VELBUS_VMB1BL, VELBUS_VMB2BL, VELBUS_VMB8IR, VELBUS_NO_TYPE, 0x08, 0xFFFFFFFF};
 
-enum { KNOWN_TYPES = 2, TYPES = sizeof types / sizeof types[0], COMMANDS = 256, COUNTS = 10, PRIORITIES = 4, TURNS = 12 };
+enum { KNOWN_TYPES = 3, TYPES = sizeof types / sizeof types[0], COMMANDS = 256, COUNTS = 10, PRIORITIES = 4, TURNS = 12 };
 
 /* takes the last digit off a number: so one number goes through every choice of several */
 static unsigned digit(unsigned long *n, unsigned base)

@@ -3,7 +3,7 @@
 
 #include "velbus.h"
 
-static const uint8_t edges[] = {0x00, 0x01, 0x02, 0x03, 0x04, 0x08, 0x0A, 0x0C, 0x10, 0x20, 0x30, 0x33, 0x40,
+static const uint8_t edges[] = {0x00, 0x01, 0x02, 0x03, 0x04, 0x08, 0x09, 0x0A, 0x0C, 0x0F, 0x10, 0x20, 0x30, 0x33, 0x40,
                                 0x7C, 0x7D, 0x7F, 0x80, 0xFC, 0xFD, 0xFE, 0xFF};
 
 uint8_t edge(void) { return draw(4) ? edges[draw(sizeof edges)] : (uint8_t)draw(256); }
@@ -21,8 +21,11 @@ static const struct {
     {0xF9, 2, LOW},  {0xFF, 5, LOW}, {0xEC, 8, LOW}, {0x04, 2, HIGH}, {0x05, 5, HIGH}, {0x06, 5, HIGH},
 };
 
-/* a channel of a VMB8IR, the blind or a button of a VMB1BL */
-static uint8_t likely_channel(void) { return (uint8_t)(draw(2) ? 1u << draw(draw(2) ? 2 : 8) : draw(2) ? 0x03 : 0x10u << draw(2)); }
+/* a blind: of either blind module, or of the VMB2BL alone */
+static uint8_t likely_blind(void) { return draw(3) ? 0x03 : 0x0C; }
+
+/* a channel of a VMB8IR, a blind or a button of a blind module */
+static uint8_t likely_channel(void) { return (uint8_t)(draw(2) ? 1u << draw(draw(2) ? 2 : 8) : draw(2) ? likely_blind() : 0x10u << draw(draw(2) ? 2 : 4)); }
 
 /* the time of a blind's command, often at or beside an edge */
 static void likely_time(uint8_t *d)
@@ -39,8 +42,8 @@ static void likely_fields(struct ref_frame *f)
     uint8_t *d = f->data;
     switch (d[0]) {
     case 0xFF:
-        d[1] = f->count == 7 ? VELBUS_VMB8IR : VELBUS_VMB1BL;
-        d[2] &= f->count == 7 ? 0xFF : 3;
+        d[1] = f->count == 7 ? VELBUS_VMB8IR : draw(2) ? VELBUS_VMB1BL : VELBUS_VMB2BL;
+        d[2] &= f->count == 7 ? 0xFF : d[1] == VELBUS_VMB1BL ? 0x03 : 0x0F;
         break;
     case 0xFE: case 0xCC: case 0xFD: case 0xC9: case 0xFC: case 0xCA:
         d[1] = 0;
@@ -55,9 +58,9 @@ static void likely_fields(struct ref_frame *f)
             d[5] = 0xFF;
         break;
     case 0xEC:
-        d[1] = 0x03;
+        d[1] = likely_blind();
         d[2] &= 3;
-        d[3] = (uint8_t)draw(3);
+        d[3] = (uint8_t)(draw(3) << (d[1] == 0x0C ? 2 : 0));
         d[4] = (uint8_t)(draw(2) ? 0 : 1u << draw(8));
         break;
     case 0x00:
@@ -66,10 +69,10 @@ static void likely_fields(struct ref_frame *f)
         break;
     case 0x05: case 0x06:
         likely_time(d + 2);
-        d[1] = 0x03;
+        d[1] = likely_blind();
         break;
     case 0x04: case 0xFA:
-        d[1] = 0x03;
+        d[1] = likely_blind();
         break;
     default:
         break;

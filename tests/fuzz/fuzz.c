@@ -22,9 +22,9 @@ static uint32_t some(void) { return (uint32_t)number(2) & 0x1FF; }
 /* a type that may be handed in, or any */
 static uint32_t some_type(void)
 {
-    static const uint32_t known[] = {VELBUS_NO_TYPE, VELBUS_VMB1BL, VELBUS_VMB8IR};
+    static const uint32_t known[] = {VELBUS_NO_TYPE, VELBUS_VMB1BL, VELBUS_VMB2BL, VELBUS_VMB8IR};
     uint32_t n = (uint32_t)number(1);
-    return n < 0xC0 ? known[n % 3] : n;
+    return n < 0xC0 ? known[n % (sizeof known / sizeof known[0])] : n;
 }
 
 /* a frame of the tests' own table, so that runs go deep soon: its kind, address, what the fields are drawn with, and one byte altered */
@@ -154,12 +154,13 @@ static void ask_everything(void)
     }
 }
 
-/* modules of both types at the first addresses, and maybe more than there is room for */
+/* modules of every type at the first addresses, and maybe more than there is room for */
 static void enter_modules(unsigned n)
 {
     for (unsigned i = 0; i < n; i++) {
-        uint8_t type = i % 2 ? VELBUS_VMB1BL : VELBUS_VMB8IR;
-        struct ref_frame f = {3u << 9 | i << 1, 0, i % 2 ? 5 : 7, {0xFF, type}};
+        static const uint8_t types[] = {VELBUS_VMB8IR, VELBUS_VMB1BL, VELBUS_VMB2BL};
+        uint8_t type = types[i % sizeof types];
+        struct ref_frame f = {3u << 9 | i << 1, 0, type == VELBUS_VMB8IR ? 7 : 5, {0xFF, type}};
         check_hear(&f);
     }
 }

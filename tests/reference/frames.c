@@ -3,12 +3,12 @@
 
 #include <string.h>
 
-enum { NONE = 0x00, BL = REF_VMB1BL, IR = REF_VMB8IR };
+enum { NONE = 0x00, BL = REF_VMB1BL, BL2 = REF_VMB2BL, IR = REF_VMB8IR };
 
 /* ---- the frames, as the papers list them ---- */
 
 struct line {
-    const char *types; /* I VMB8IR, B VMB1BL */
+    const char *types; /* I VMB8IR, 1 VMB1BL, 2 VMB2BL, B both of these */
     unsigned what;     /* the message's number */
     unsigned command;
     char priority;    /* h high, l low */
@@ -16,18 +16,19 @@ struct line {
 };
 
 static const struct line lines[] = {
-    {"I", 1, 0xFF, 'l', "t....."},   {"B", 2, 0xFF, 'l', "t..."},     {"IB", 3, 0x00, 'h', "..."},      {"IB", 4, 0xFE, 'l', "l."},
+    {"I", 1, 0xFF, 'l', "t....."},   {"1", 2, 0xFF, 'l', "t..."},     {"IB", 3, 0x00, 'h', "..."},      {"IB", 4, 0xFE, 'l', "l."},
     {"IB", 5, 0xCC, 'l', "l...."},   {"IB", 6, 0xFD, 'l', "l"},       {"IB", 7, 0xC9, 'l', "l"},        {"IB", 8, 0xCB, 'l', ""},
     {"IB", 9, 0xFC, 'l', "l."},      {"IB", 10, 0xCA, 'l', "l...."},  {"IB", 11, 0xDA, 'l', "..."},     {"IB", 12, 0xD9, 'l', ""},
     {"IB", 13, 0xF0, 'l', "c......"}, {"IB", 14, 0xF1, 'l', "c......"}, {"IB", 15, 0xF2, 'l', "c...."}, {"IB", 16, 0xEF, 'l', "c"},
     {"IB", 17, 0xFA, 'l', "c"},      {"I", 18, 0xEB, 'l', "...."},    {"I", 19, 0xF4, 'l', "..."},      {"I", 20, 0xF5, 'l', "m"},
     {"I", 20, 0xF6, 'l', "m"},       {"I", 20, 0xF7, 'l', "m"},       {"I", 20, 0xF8, 'l', "m"},        {"I", 20, 0xF9, 'l', "m"},
     {"B", 21, 0xEC, 'l', "c......"}, {"B", 22, 0x04, 'h', "c"},       {"B", 23, 0x05, 'h', "cT"},       {"B", 24, 0x06, 'h', "cT"},
+    {"2", 25, 0xFF, 'l', "t..."},
 };
 
 enum { LINES = sizeof lines / sizeof lines[0] };
 
-static int has(unsigned type, const struct line *line) { return strchr(line->types, type == IR ? 'I' : 'B') != NULL; }
+static int has(unsigned type, const struct line *line) { return strpbrk(line->types, type == IR ? "I" : type == BL ? "B1" : "B2") != NULL; }
 
 static const struct line *line_of(unsigned type, unsigned command)
 {
@@ -55,47 +56,59 @@ static unsigned ones(unsigned byte)
     return n;
 }
 
+/* the identifiers of a type's names, in the order of the names, with a 0 after the last: a blind is its two bits, a button its own */
+static const uint8_t *identifiers(unsigned type)
+{
+    static const uint8_t ir[] = {0x01, 0x02, 0x04, 0x08, 0x10, 0x20, 0x40, 0x80, 0}, bl[] = {0x03, 0x10, 0x20, 0},
+                         bl2[] = {0x03, 0x0C, 0x10, 0x20, 0x40, 0x80, 0};
+    return type == IR ? ir : type == BL ? bl : bl2;
+}
+
 unsigned ref_name_of(unsigned type, unsigned channel)
 {
-    if (type == BL)
-        return channel == 0x03 ? 1 : channel == 0x10 ? 2 : channel == 0x20 ? 3 : 0;
-    if (ones(channel) != 1)
-        return 0;
-    unsigned name = 1;
-    while (channel >>= 1)
-        name++;
-    return name;
+    const uint8_t *all = identifiers(type);
+    for (unsigned i = 0; all[i]; i++)
+        if (all[i] == channel)
+            return i + 1;
+    return 0;
 }
+
+unsigned ref_blind_of(unsigned type, unsigned channel) { return channel == 0x03 ? 1 : channel == 0x0C && type == BL2 ? 2 : 0; }
 
 /* Names asked for: of a blind module several together, where nothing is left once each identifier that the byte holds is taken out. */
 static int names_asked(unsigned type, unsigned byte)
 {
-    static const uint8_t of_blind[] = {0x03, 0x10, 0x20};
-    if (type != BL)
+    if (type == IR)
         return ref_name_of(type, byte) != 0;
     unsigned left = byte;
-    for (size_t i = 0; i < sizeof of_blind; i++)
-        if ((byte & of_blind[i]) == of_blind[i])
-            left &= ~(unsigned)of_blind[i];
+    for (const uint8_t *one = identifiers(type); *one; one++)
+        if ((byte & *one) == *one)
+            left &= ~(unsigned)*one;
     return byte != 0 && left == 0;
 }
 
 /* ---- refusals ---- */
+
+/* a blind's status: off, or its own up or down bit */
+static int state_allowed(unsigned blind, unsigned state)
+{
+    return state == 0 || (blind == 1 ? state == 0x01 || state == 0x02 : state == 0x04 || state == 0x08);
+}
 
 /* whether the fields of a frame of the right length are allowed; d[1] is data byte 1 */
 static int fields_allowed(unsigned type, const uint8_t *d)
 {
     switch (d[1]) {
     case 0xFE: case 0xFD: case 0xFC:
-        return d[2] == 0 && (type == IR || d[3] <= 0x7F);
+        return d[2] == 0 && (type != BL || d[3] <= 0x7F);
     case 0xCC: case 0xC9: case 0xCA:
-        return d[2] == 0 && d[3] <= (type == IR ? 0xFC : 0x7C);
+        return d[2] == 0 && d[3] <= (type == BL ? 0x7C : 0xFC);
     case 0xF0: case 0xF1:
         return ref_name_of(type, d[2]) != 0;
     case 0xEF:
         return names_asked(type, d[2]);
     case 0xF2:
-        return ref_name_of(type, d[2]) != 0 && (type == IR || d[2] == 0x03 || d[6] == 0xFF);
+        return ref_name_of(type, d[2]) != 0 && (type == IR || ref_blind_of(type, d[2]) != 0 || d[6] == 0xFF);
     default:
         break;
     }
@@ -103,13 +116,13 @@ static int fields_allowed(unsigned type, const uint8_t *d)
         return 1;
     switch (d[1]) {
     case 0x04: case 0x05: case 0x06: case 0xFA:
-        return d[2] == 0x03;
+        return ref_blind_of(type, d[2]) != 0;
     case 0xEC:
-        return d[2] == 0x03 && d[3] <= 3 && d[4] <= 2 && ones(d[5]) <= 1;
+        return ref_blind_of(type, d[2]) != 0 && d[3] <= 3 && state_allowed(ref_blind_of(type, d[2]), d[4]) && ones(d[5]) <= 1;
     case 0xFF:
-        return d[3] <= 3;
+        return d[3] <= (type == BL ? 0x03 : 0x0F);
     case 0x00:
-        return !((d[2] | d[3] | d[4]) & 0xCC);
+        return type == BL2 || !((d[2] | d[3] | d[4]) & 0xCC);
     default:
         return 1;
     }
@@ -151,7 +164,7 @@ static unsigned judged(unsigned type, const struct ref_frame *f)
     return field_refusal(type, f->data, f->count);
 }
 
-static int is_type(uint32_t type) { return type == IR || type == BL; }
+static int is_type(uint32_t type) { return type == IR || type == BL || type == BL2; }
 
 /* FF goes by the type inside it */
 static unsigned type_for(uint32_t type, const struct ref_frame *f) { return f->data[0] == 0xFF ? f->data[1] : type; }
@@ -266,7 +279,7 @@ static unsigned lay_data(const struct line *line, const uint8_t *m, uint8_t *d)
     d[n++] = (uint8_t)line->command;
     for (const char *p = line->made; *p; p++)
         switch (*p) {
-        case 't': d[n++] = line->types[0] == 'I' ? IR : BL; break;
+        case 't': d[n++] = line->types[0] == 'I' ? IR : line->types[0] == '1' ? BL : BL2; break;
         case 'c': d[n++] = m[CHANNEL]; break;
         case 'l': d[n++] = m[LOCATION + 1]; d[n++] = m[LOCATION]; break;
         case 'T': for (int i = 2; i >= 0; i--) d[n++] = (uint8_t)(number >> 8 * i); break;

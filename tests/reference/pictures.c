@@ -3,12 +3,12 @@
 
 #include <string.h>
 
-enum { IR = REF_VMB8IR, UNKNOWN = REF_UNKNOWN };
+enum { IR = REF_VMB8IR, BL = REF_VMB1BL, UNKNOWN = REF_UNKNOWN };
 
-unsigned ref_cells(unsigned type) { return type == IR ? 256 : 128; }
-unsigned ref_names(unsigned type) { return type == IR ? 8 : 3; }
+unsigned ref_cells(unsigned type) { return type == BL ? 128 : 256; }
+unsigned ref_names(unsigned type) { return type == IR ? 8 : type == BL ? 3 : 6; }
 unsigned ref_leds(unsigned type) { return type == IR ? 8 : 0; }
-unsigned ref_blinds(unsigned type) { return type == IR ? 0 : 1; }
+unsigned ref_blinds(unsigned type) { return type == IR ? 0 : type == BL ? 1 : 2; }
 
 static struct ref_module *module_at(struct ref_modules *all, uint32_t address)
 {
@@ -26,7 +26,7 @@ static void blank(struct ref_module *m, unsigned address, unsigned type)
 {
     m->address = address;
     m->type = type;
-    m->year = m->week = m->blind = UNKNOWN;
+    m->year = m->week = m->blind[0] = m->blind[1] = UNKNOWN;
     for (int i = 0; i < 256; i++)
         m->cell[i] = UNKNOWN;
     for (int n = 0; n < 8; n++) {
@@ -69,6 +69,13 @@ static void set_cell(struct ref_module *m, unsigned location, int value)
         m->character[location / 16][location % 16] = value;
 }
 
+/* 0 off, 1 up, 2 down, or unknown, of the blind that the frame names; in its status blind 2 goes up at 4 and down at 8 */
+static void tell_blind(struct ref_module *m, const uint8_t *d)
+{
+    unsigned blind = ref_blind_of(m->type, d[1]);
+    m->blind[blind - 1] = d[0] != 0xEC ? UNKNOWN : blind == 1 ? d[3] : d[3] / 4;
+}
+
 static int is_entry(const struct ref_frame *f) { return !f->remote && f->data[0] == 0xFF; }
 
 static unsigned address_of(const struct ref_frame *f) { return f->identifier >> 1 & 0xFF; }
@@ -105,8 +112,7 @@ static void apply(struct ref_modules *all, const struct ref_frame *f)
     case 0xF4: all_leds(m, d[1], d[2], d[3]); break;
     case 0xEB: all_leds(m, d[2], d[3], d[4]); break;
     case 0xF5: case 0xF6: case 0xF7: case 0xF8: case 0xF9: some_leds(m, d[1], d[0] - 0xF5); break;
-    case 0xEC: m->blind = d[3]; break;
-    case 0x04: case 0x05: case 0x06: m->blind = UNKNOWN; break;
+    case 0xEC: case 0x04: case 0x05: case 0x06: tell_blind(m, d); break;
     default: break;
     }
 }

@@ -28,9 +28,12 @@ unsigned ref_write(uint32_t type, const uint8_t message[20], uint8_t frame[12]);
 /* the name that a channel byte of a type stands for, from 1; 0 where it stands for none */
 unsigned ref_name_of(unsigned type, unsigned channel);
 
+/* the blind that it stands for, from 1; 0 where it stands for none */
+unsigned ref_blind_of(unsigned type, unsigned channel);
+
 /* ---- the picture ---- */
 
-enum { REF_VMB1BL = 0x03, REF_VMB8IR = 0x0A, REF_UNKNOWN = 256 };
+enum { REF_VMB1BL = 0x03, REF_VMB2BL = 0x09, REF_VMB8IR = 0x0A, REF_UNKNOWN = 256 };
 
 enum {
     REF_MODULES = 16,
@@ -44,7 +47,7 @@ struct ref_module {
     int cell[256];
     int character[8][16];
     int led[8];
-    int blind;
+    int blind[2];
 };
 
 struct ref_modules {

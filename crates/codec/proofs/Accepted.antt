@@ -9,7 +9,7 @@ use lib.Dec.{eqb, leb}
 use borrow.Author.Tests.{eqb-true, leb-true}
 use Rattle.laws.specs.Tests.{among}
 use Rattle.laws.proofs.Testing.{and-both, unrefused-is}
-use Rattle.frame.specs.Types.{lineOf, blindsOf, channelsOf, rowsOf, rowFor, isListed}
+use Rattle.frame.specs.Types.{lineOf, blindsOf, channelsOf, rowsOf, rowFor, isListed, positionIn, blindOf}
 use Rattle.frame.specs.Bytes.{byte, dataOf}
 use Rattle.frame.specs.Messages.{typeCommand, decode}
 use Rattle.frame.specs.Fields.{buttonsAllowed, askedAllowed}
@@ -41,7 +41,7 @@ abbrev taken : ℕ → ℕ → Row → Bool
 taken kind c r = eqb (commandRefusal kind (r .1) (dataOf (sample kind c r)) (decode (padded (sample kind c r)))) 0
 
 all-work : (kind c : ℕ) → isListed kind c ≡ true → begun kind c (rowFor kind c) && taken kind c (rowFor kind c) ≡ true
-unfolding lineOf rowsOf buttonsAllowed askedAllowed
+unfolding lineOf rowsOf positionIn blindOf buttonsAllowed askedAllowed
 all-work = of-listed (λ kind c r. begun kind c r && taken kind c r) refl
 
 pub every-row : EveryRow

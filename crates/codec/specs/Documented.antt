@@ -33,7 +33,7 @@ pub record Timed (s : List ℕ) (c channel : ℕ) (t : Time) : Type 0 where
 -- the bytes s are the message
 abbrev pub Documented : List ℕ → Command → Type 0
 Documented s (TypeLong kind a b c year week) = s ≡ 0xFF ∷ kind ∷ a ∷ b ∷ c ∷ year ∷ week ∷ []
-Documented s (TypeShort kind timeout year week) = s ≡ 0xFF ∷ kind ∷ timeout ∷ year ∷ week ∷ []
+Documented s (TypeShort kind timeouts year week) = s ≡ 0xFF ∷ kind ∷ timeouts ∷ year ∷ week ∷ []
 Documented s (Buttons pressed released long) = s ≡ 0x00 ∷ pressed ∷ released ∷ long ∷ []
 Documented s (CellTold l v) = Located s 0xFE l (v ∷ [])
 Documented s (BlockTold l a b c d) = Located s 0xCC l (a ∷ b ∷ c ∷ d ∷ [])

@@ -11,6 +11,7 @@ use frame::status_asked_fault;
 use frame::stop_fault;
 use frame::timed_fault;
 use frame::type_short_fault;
+use laws::wide32;
 ghost use mathlib.Core.Path.{_≡_};
 ghost use Rattle.frame.specs.Fields.{fault, fieldRefusal};
 
@@ -20,7 +21,7 @@ pub fn fault_of(kind: u32, m: Command) -> u16
 {
     match m {
         Command::TypeLong(_, _, _, _, _, _) => 0,
-        Command::TypeShort(_, timeout, _, _) => type_short_fault(timeout),
+        Command::TypeShort(k, timeouts, _, _) => type_short_fault(wide32(k), timeouts),
         Command::Buttons(a, b, c) => buttons_fault(kind, a, b, c),
         Command::CellTold(l, _) => cell_fault(kind, l),
         Command::BlockTold(l, _, _, _, _) => block_fault(kind, l),

@@ -11,7 +11,7 @@ use Rattle.codec.proofs.Everything.{every-frame}
 use Rattle.codec.proofs.RoundTrip.{read-then-written, written-then-read, one-frame}
 use Rattle.repair.proofs.Beyond.{first-beyond-repair}
 use Rattle.places.specs.Limits.{addresses}
-use Rattle.history.proofs.Speaks.{names-numbered, speaks-of}
+use Rattle.history.proofs.Speaks.{names-numbered, blinds-numbered, speaks-of}
 use Rattle.history.proofs.InMemory.{in-memory}
 use Rattle.places.proofs.Fitting.{runs-lie, runs-fit}
 use Rattle.places.proofs.Apart.{apart, inside}
@@ -47,6 +47,7 @@ demand-2 =
       laid-is-read-back = laid-is-read-back;
       speaks-of = speaks-of;
       names-numbered = names-numbered;
+      blinds-numbered = blinds-numbered;
       runs-lie = runs-lie;
       runs-fit = runs-fit;
       apart = apart;

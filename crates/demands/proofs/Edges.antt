@@ -2,10 +2,10 @@
 use mathlib.Core.Path.{refl}
 use mathlib.Core.List.{reverse}
 use Rattle.laws.specs.Tab.{tab}
-use Rattle.frame.specs.Types.{lineOf, rowsOf, extentOf, positionIn, nameOf}
+use Rattle.frame.specs.Types.{lineOf, rowsOf, extentOf, positionIn, nameOf, blindOf}
 use Rattle.frame.specs.Fields.{buttonsAllowed, askedAllowed}
 use Rattle.judging.specs.Reading.{reading, commandRead, requestRead}
-use Rattle.places.specs.Places.{firstCharacter, cellAsked, ledAsked, hasName}
+use Rattle.places.specs.Places.{firstCharacter, cellAsked, ledAsked, blindAsked, hasName}
 use Rattle.places.specs.Runs.{saidFrom, glowBy, meaningOf, meant, readAs}
 use Rattle.history.specs.Standing.{sense, meaning, typed, typeOf, after, gave, latest, more, listed, judged, judgement, outcomeOf, stands, butLatest, struck, counted, standing, kept, granted, answered}
 use Rattle.history.specs.Asked.{countTold, overRow, toldAs, toldReply}
@@ -16,7 +16,7 @@ use Rattle.recording.specs.Record.{readWithin}
 use Rattle.demands.specs.Edges.{EdgesHold, EdgesOnBytes}
 
 pub edges-hold : EdgesHold
-unfolding tab lineOf rowsOf extentOf positionIn nameOf buttonsAllowed askedAllowed reading commandRead requestRead firstCharacter cellAsked ledAsked hasName saidFrom glowBy meaningOf meant readAs sense meaning typed typeOf after gave latest more listed judged judgement outcomeOf stands butLatest struck counted standing kept granted answered countTold overRow toldAs toldReply numberBytes readNumber readWithin
+unfolding tab lineOf rowsOf extentOf positionIn nameOf blindOf buttonsAllowed askedAllowed reading commandRead requestRead firstCharacter cellAsked ledAsked blindAsked hasName saidFrom glowBy meaningOf meant readAs sense meaning typed typeOf after gave latest more listed judged judgement outcomeOf stands butLatest struck counted standing kept granted answered countTold overRow toldAs toldReply numberBytes readNumber readWithin
 edges-hold = refl
 
 pub edges-on-bytes : EdgesOnBytes

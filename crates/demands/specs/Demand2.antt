@@ -15,7 +15,7 @@ use Rattle.codec.specs.declared.writer.Writing.the-variants.{Written}
 use Rattle.places.specs.Limits.{addresses}
 use Rattle.places.specs.Fitting.{RunsLie, RunsFit}
 use Rattle.places.specs.Apart.{Apart, Inside}
-use Rattle.history.specs.Speaks.{NamesNumbered, SpeaksOf}
+use Rattle.history.specs.Speaks.{NamesNumbered, BlindsNumbered, SpeaksOf}
 use Rattle.history.specs.InMemory.{InMemory}
 use Rattle.history.specs.Effects.{Effects, HearsCommand, HearsEntry, HearsExchange}
 use Rattle.velbus.specs.Statements.{LaidIsHeld, ReadThenWrittenAgain, LaidIsReadBack}
@@ -50,6 +50,7 @@ pub record Demand2 : Type 0 where
   -- what each message says of each place, all of them places that its type has
   pub speaks-of : SpeaksOf
   pub names-numbered : NamesNumbered
+  pub blinds-numbered : BlindsNumbered
   pub runs-lie : RunsLie
   pub runs-fit : RunsFit
   -- different things have different places, each in the record; the names of H'0A' live in its memory, and a character and its cell are one place

@@ -4,27 +4,29 @@ use Prim.Native.Nat.{ℕ, _≤_}
 use mathlib.Core.Path.{_≡_}
 use mathlib.Core.List.{List, [], _∷_, _++_, map, reverse}
 use lib.ListN.{length, replicate}
-use Rattle.laws.specs.Refusals.{badIdentifier, sid0Set, badForm, badPriority, wrongPriority, badField, codeAt, nothingKept, tooShort, badNumber}
+use Rattle.laws.specs.Refusals.{badIdentifier, sid0Set, badForm, badPriority, badType, wrongPriority, badField, codeAt, nothingKept, noSuchPlace, tooShort, badNumber}
 use Rattle.frame.specs.Identifiers.{priorityOf, addressOf}
 use Rattle.judging.specs.Reading.{reading}
 use Rattle.frame.specs.declared.identifiers.Address.{Address}
 use Rattle.frame.specs.declared.messages.Time.the-variants.{DipSwitch, Permanently, Seconds}
 use Rattle.frame.specs.declared.messages.Command.{Command}
-use Rattle.frame.specs.declared.messages.Command.the-variants.{BlockTold, NameAsked, BlindUp}
+use Rattle.frame.specs.declared.messages.Command.the-variants.{TypeShort, Buttons, BlockTold, NameThree, NameAsked, BlindStatus, BlindStop, BlindUp}
 use Rattle.frame.specs.declared.messages.Message.the-variants.{TypeRequest, Tells}
 use Rattle.frame.specs.declared.messages.Reading.{Reading}
 use Rattle.frame.specs.declared.messages.Reading.the-variants.{Read, Refused}
 use Rattle.places.specs.declared.answers.Answer.{Answer}
 use Rattle.places.specs.declared.answers.Answer.the-variants.{Value, NotHeard}
+use Rattle.places.specs.declared.answers.Answer.the-variants as answer
 use Rattle.places.specs.declared.answers.Outcome.{Outcome}
 use Rattle.places.specs.declared.answers.Outcome.the-variants as outcome
 use Rattle.places.specs.Layout.{size}
-use Rattle.questions.specs.Question.{Question, cell, led, name-row, Reply, value, refusing}
+use Rattle.questions.specs.Question.{Question, cell, led, blind, name-row, Reply, value, refusing}
 use Rattle.questions.specs.Replies.{reply}
 use Rattle.history.specs.Standing.{Event, back, deepest, outcomeOf, answered}
 use Rattle.history.specs.Demand3.{runBytes}
-use Rattle.history.specs.Cases.{example, ir, toldTo}
+use Rattle.history.specs.Cases.{example, ir, bl, bl2, status, toldTo}
 use Rattle.history.specs.Cases.{low as heard}
+use Rattle.history.specs.Cases.{high as urged}
 use Rattle.numbers.specs.declared.reads.Found.{Found}
 use Rattle.numbers.specs.declared.reads.Found.the-variants as numbers
 use Rattle.numbers.specs.Number.{bytesOf, numberAt}
@@ -132,6 +134,17 @@ leds s xs =
 abbrev pub up : ℕ → ℕ → ℕ → List ℕ
 up a b c = 0x05 ∷ 0x03 ∷ a ∷ b ∷ c ∷ []
 
+-- a type frame of five bytes; the status of a blind: its time-out, its state, its LEDs
+abbrev pub enters : ℕ → ℕ → List ℕ
+enters kind timeouts = 0xFF ∷ kind ∷ timeouts ∷ 0x0C ∷ 0x05 ∷ []
+
+abbrev pub blindIs : ℕ → ℕ → ℕ → ℕ → List ℕ
+blindIs n timeout state lights = 0xEC ∷ n ∷ timeout ∷ state ∷ lights ∷ 0x00 ∷ 0x00 ∷ 0x00 ∷ []
+
+-- the two-blind module is told that blind 1 goes up and blind 2 down
+abbrev pub bothMove : List Event
+bothMove = bl2 ∷ status 0x03 0x01 ∷ status 0x0C 0x08 ∷ []
+
 -- the parts of the channel's name
 abbrev pub part-one : Event
 part-one = heard (0xF0 ∷ 0x04 ∷ 0x41 ∷ 0x42 ∷ 0x43 ∷ 0x44 ∷ 0x45 ∷ 0x46 ∷ [])
@@ -209,6 +222,35 @@ edges =
     ∷ accepts 0x03 highExample (up 0x00 0x00 0x00) (BlindUp 0x03 DipSwitch)
     ∷ accepts 0x03 highExample (up 0x00 0x00 0x01) (BlindUp 0x03 (Seconds 1))
     ∷ accepts 0x03 highExample (up 0xFF 0xFF 0xFF) (BlindUp 0x03 Permanently)
+    -- H'09' by document 02, W-201: FF with time-outs to H'0F', of H'03' to 3; 4 for a number that is no type
+    ∷ accepts 0 lowExample (enters 0x09 0x0F) (TypeShort 0x09 0x0F 0x0C 0x05)
+    ∷ reads 0 lowExample 0 (enters 0x09 0x10) (badAt 3)
+    ∷ accepts 0 lowExample (enters 0x03 0x03) (TypeShort 0x03 0x03 0x0C 0x05)
+    ∷ reads 0 lowExample 0 (enters 0x03 0x04) (badAt 3)
+    ∷ reads 0 lowExample 0 (enters 0x08 0x00) (Refused badType)
+    -- 04 to blind 2, which H'03' has not; H'0F' is no blind
+    ∷ accepts 0x09 highExample (0x04 ∷ 0x0C ∷ []) (BlindStop 0x0C)
+    ∷ reads 0x09 highExample 0 (0x04 ∷ 0x0F ∷ []) (badAt 2)
+    ∷ reads 0x03 highExample 0 (0x04 ∷ 0x0C ∷ []) (badAt 2)
+    -- EC: byte 4 is 0, 1, 2 for blind 1 and 0, 4, 8 for blind 2
+    ∷ accepts 0x09 lowExample (blindIs 0x03 3 2 0x80) (BlindStatus 0x03 3 2 0x80 0 0 0)
+    ∷ reads 0x09 lowExample 0 (blindIs 0x03 0 4 0) (badAt 4)
+    ∷ accepts 0x09 lowExample (blindIs 0x0C 3 8 0x80) (BlindStatus 0x0C 3 8 0x80 0 0 0)
+    ∷ reads 0x09 lowExample 0 (blindIs 0x0C 0 2 0) (badAt 4)
+    ∷ reads 0x09 lowExample 0 (blindIs 0x0C 0 12 0) (badAt 4)
+    -- EF H'FF' asks for all six names, H'04' for none; F2 of up 2 ends with H'FF', of blind 2 with anything; 00 has every bit; CC to H'00FC'
+    ∷ accepts 0x09 lowExample (0xEF ∷ 0xFF ∷ []) (NameAsked 0xFF)
+    ∷ reads 0x09 lowExample 0 (0xEF ∷ 0x04 ∷ []) (badAt 2)
+    ∷ reads 0x09 lowExample 0 (0xF2 ∷ 0x40 ∷ 0x41 ∷ 0x42 ∷ 0x43 ∷ 0x44 ∷ []) (badAt 6)
+    ∷ accepts 0x09 lowExample (0xF2 ∷ 0x0C ∷ 0x41 ∷ 0x42 ∷ 0x43 ∷ 0x44 ∷ []) (NameThree 0x0C 0x41 0x42 0x43 0x44)
+    ∷ accepts 0x09 highExample (0x00 ∷ 0xFF ∷ 0xFF ∷ 0xFF ∷ []) (Buttons 0xFF 0xFF 0xFF)
+    ∷ accepts 0x09 lowExample (block 0xFC) (blockTold 0xFC)
+    ∷ reads 0x09 lowExample 0 (block 0xFD) (badAt 3)
+    -- each blind's state by itself: 1 up, 2 down; 05 to one of them leaves the other; 12 for blind 3, and for blind 2 on H'03'
+    ∷ asked bothMove (blind 1 ∷ blind 2 ∷ blind 3 ∷ []) (Value 1 ∷ Value 2 ∷ answer.Refused noSuchPlace ∷ [])
+    ∷ asked (bothMove ++ urged (0x05 ∷ 0x0C ∷ 0 ∷ 0 ∷ 0 ∷ []) ∷ []) (blind 1 ∷ blind 2 ∷ []) (Value 1 ∷ NotHeard ∷ [])
+    ∷ asked (bothMove ++ urged (0x05 ∷ 0x03 ∷ 0 ∷ 0 ∷ 0 ∷ []) ∷ []) (blind 1 ∷ blind 2 ∷ []) (NotHeard ∷ Value 2 ∷ [])
+    ∷ asked (bl ∷ []) (blind 1 ∷ blind 2 ∷ []) (NotHeard ∷ answer.Refused noSuchPlace ∷ [])
     -- F2, F0, F1 for one channel: 16 heard, and the sixteen values; by W-209 F2 alone: 4 heard; nothing heard: 0
     ∷ named (ir ∷ part-three ∷ part-one ∷ part-two ∷ []) 16 (value 16 wholeName)
     ∷ named (ir ∷ part-three ∷ []) 16 (value 4 lastFour)

@@ -1,6 +1,6 @@
 -- The module types as one table: each type's frames, every command with its length and its priority, in document 01's order, and how much
 -- it has.
-use Prim.Native.Nat.{ℕ, suc, _-_}
+use Prim.Native.Nat.{ℕ, suc, _-_, _^_}
 use mathlib.Core.List.{List, [], _∷_, _++_, map}
 use mathlib.Core.Bool.{Bool, true, false, not, cond}
 use lib.Dec.{eqb}
@@ -20,6 +20,9 @@ vmb1bl = 0x03
 
 abbrev pub vmb8ir : ℕ
 vmb8ir = 0x0A
+
+abbrev pub vmb2bl : ℕ
+vmb2bl = 0x09
 
 -- the type frame has two shapes, of seven bytes and of five
 abbrev pub longType : ℕ
@@ -69,9 +72,9 @@ vmb8irOnly =
     ∷ row 0xF9 2 low
     ∷ []
 
--- H'03' only
-abbrev pub vmb1blOnly : List Entry
-vmb1blOnly =
+-- H'03' and H'09' only
+abbrev pub blindOnly : List Entry
+blindOnly =
     row 0xFF shortType low
     ∷ row 0xEC 8 low
     ∷ row 0x04 2 high
@@ -98,11 +101,16 @@ line number rows cells channels blinds leds in-memory =
 abbrev pub blindChannels : List ℕ
 blindChannels = 0x03 ∷ 0x10 ∷ 0x20 ∷ []
 
+-- H'09': both blinds, then up 1, down 1, up 2 and down 2
+abbrev pub twoBlindChannels : List ℕ
+twoBlindChannels = 0x03 ∷ 0x0C ∷ 0x10 ∷ 0x20 ∷ 0x40 ∷ 0x80 ∷ []
+
 -- number, own rows, cells, channels, blinds, LEDs, names in memory
 abbrev pub types : List Line
 types =
-    line vmb1bl vmb1blOnly 128 blindChannels (0x03 ∷ []) 0 false
+    line vmb1bl blindOnly 128 blindChannels (0x03 ∷ []) 0 false
     ∷ line vmb8ir vmb8irOnly 256 bits [] 8 true
+    ∷ line vmb2bl blindOnly 256 twoBlindChannels (0x03 ∷ 0x0C ∷ []) 0 false
     ∷ []
 
 abbrev pub moduleTypes : List ℕ
@@ -153,6 +161,14 @@ positionIn (k ∷ ks) x = cond (eqb x k) 0 (suc (positionIn ks x))
 
 unfoldable pub nameOf : ℕ → ℕ → ℕ
 nameOf kind channel = suc (positionIn (channelsOf kind) channel)
+
+-- the number of a blind, from 1
+unfoldable pub blindOf : ℕ → ℕ → ℕ
+blindOf kind channel = suc (positionIn (blindsOf kind) channel)
+
+-- a blind has two bits of a byte, up and down; blind n's up is 1, 4, 16, .., and its down is twice that
+abbrev pub upBit : ℕ → ℕ
+upBit n = 4 ^ (n - 1)
 
 -- the list of a type: its own rows, and what every type has; a number that is no type has none
 abbrev pub allRows : Line → List Entry

@@ -11,16 +11,19 @@ ghost use Rattle.frame.specs.Types.{
   handedTypes,
   everyType,
   vmb8irOnly,
-  vmb1blOnly,
+  blindOnly,
   find,
   rowFor,
   lastCell,
   lastStart,
   extentOf,
   blindChannels,
+  twoBlindChannels,
   positionIn,
   nameOf,
   namesInMemory,
+  blindOf,
+  upBit,
 };
 
 pub const NO_TYPE: u32 = 0x00;
@@ -28,6 +31,8 @@ pub const NO_TYPE: u32 = 0x00;
 pub const VMB1BL: u32 = 0x03;
 
 pub const VMB8IR: u32 = 0x0A;
+
+pub const VMB2BL: u32 = 0x09;
 
 // How many bytes the type frame has in each of its two shapes.
 pub const LONG: usize = 7;
@@ -51,6 +56,7 @@ pub fn module_type(kind: u32) -> bool
     match kind {
         VMB1BL => true,
         VMB8IR => true,
+        VMB2BL => true,
         _ => false,
     }
 }
@@ -105,8 +111,9 @@ fn vmb8ir(command: u8) -> Row
     }
 }
 
-fn vmb1bl(command: u8) -> Row
-    ensures { λ r. ⌜ r ≡ find (vmb1blOnly ++ everyType) command ⌝ }
+// Of the types with blinds.
+fn blind_module(command: u8) -> Row
+    ensures { λ r. ⌜ r ≡ find (blindOnly ++ everyType) command ⌝ }
 {
     match command {
         0xFF => Row(SHORT, LOW),
@@ -122,8 +129,9 @@ pub fn row_for(kind: u32, command: u8) -> Row
     ensures { λ r. ⌜ r ≡ rowFor kind command ⌝ }
 {
     match kind {
-        VMB1BL => vmb1bl(command),
+        VMB1BL => blind_module(command),
         VMB8IR => vmb8ir(command),
+        VMB2BL => blind_module(command),
         _ => Row(0, HIGH),
     }
 }
@@ -144,6 +152,12 @@ pub fn extent_of(kind: u32) -> Extent
             leds: 8,
             blinds: 0,
         },
+        VMB2BL => Extent {
+            cells: 256,
+            names: 6,
+            leds: 0,
+            blinds: 2,
+        },
         _ => Extent {
             cells: 0,
             names: 0,
@@ -160,6 +174,7 @@ pub fn names_in_memory(kind: u32) -> bool
     match kind {
         VMB1BL => false,
         VMB8IR => true,
+        VMB2BL => false,
         _ => false,
     }
 }
@@ -198,6 +213,21 @@ fn blind_position(channel: u8) -> u8
     }
 }
 
+// Both blinds, then up 1, down 1, up 2 and down 2.
+fn two_blind_position(channel: u8) -> u8
+    ensures { λ r. ⌜ r ≡ positionIn twoBlindChannels channel ⌝ }
+{
+    match channel {
+        0x03 => 0,
+        0x0C => 1,
+        0x10 => 2,
+        0x20 => 3,
+        0x40 => 4,
+        0x80 => 5,
+        _ => 6,
+    }
+}
+
 // The number of a channel's name, from 1; one more than the type has where it has no such channel.
 pub fn name_of(kind: u32, channel: u8) -> u8
     ensures { λ r. ⌜ r ≡ nameOf kind channel ⌝ }
@@ -205,6 +235,37 @@ pub fn name_of(kind: u32, channel: u8) -> u8
     match kind {
         VMB1BL => blind_position(channel) + 1,
         VMB8IR => bit_position(channel) + 1,
+        VMB2BL => two_blind_position(channel) + 1,
         _ => 1,
+    }
+}
+
+// The number of a blind, from 1; one more than the type has where it has no such blind.
+pub fn blind_of(kind: u32, channel: u8) -> u8
+    ensures { λ r. ⌜ r ≡ blindOf kind channel ⌝ }
+{
+    match kind {
+        VMB1BL => match channel {
+            0x03 => 1,
+            _ => 2,
+        },
+        VMB8IR => 1,
+        VMB2BL => match channel {
+            0x03 => 1,
+            0x0C => 2,
+            _ => 3,
+        },
+        _ => 1,
+    }
+}
+
+// The bit that is up of a blind's two; down is the next.
+pub fn up_bit(kind: u32, channel: u8) -> u8
+    ensures { λ r. ⌜ r ≡ upBit (blindOf kind channel) ⌝ }
+{
+    match blind_of(kind, channel) {
+        1 => 1,
+        2 => 4,
+        _ => 16,
     }
 }

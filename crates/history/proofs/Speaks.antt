@@ -14,10 +14,10 @@ use Rattle.frame.specs.declared.messages.Glow.the-variants.{Off, On, Slow, Fast
 use Rattle.frame.specs.declared.messages.Command.{Command}
 use Rattle.frame.specs.declared.messages.Command.the-variants.{TypeLong, TypeShort, Buttons, CellTold, BlockTold, CellAsked, BlockAsked, DumpAsked, CellSet, BlockSet, Errors, ErrorsAsked, NameOne, NameTwo, NameThree, NameAsked, StatusAsked, InputStatus, LedsAll, Leds, BlindStatus, BlindStop, BlindUp, BlindDown}
 use Rattle.frame.specs.declared.messages.Message.the-variants.{TypeRequest, Tells}
-use Rattle.frame.specs.Types.{lineOf, positionIn, nameOf}
-use Rattle.places.specs.Places.{ledPlace, blindPlace, characterPlace, cellPlace}
-use Rattle.places.specs.Runs.{Saying, silent, asks, tells, saidFrom, noRun, telling, asking, buildTold, bit, glowNumber, glowBy, ledBy, ledIf, allLeds, someLeds, meaningOf, meant}
-use Rattle.history.specs.Speaks.{tellsOf, asksAll, isOne, ledNumber, ledState, tellsLed, tellsIf, Just, Nothing, Build, NamesNumbered, Spoken, SpeaksOf}
+use Rattle.frame.specs.Types.{lineOf, positionIn, nameOf, blindOf}
+use Rattle.places.specs.Places.{ledPlace, characterPlace, cellPlace}
+use Rattle.places.specs.Runs.{Saying, silent, asks, tells, saidFrom, noRun, telling, asking, buildTold, namedBlind, blindState, bit, glowNumber, glowBy, ledBy, ledIf, allLeds, someLeds, meaningOf, meant}
+use Rattle.history.specs.Speaks.{tellsOf, asksAll, isOne, ledNumber, ledState, tellsLed, tellsIf, Just, Nothing, Build, NamesNumbered, BlindsNumbered, Spoken, SpeaksOf}
 
 -- a run's saying at its place i, and silence elsewhere
 said-at : (start : ℕ) (xs : List Saying) (i : ℕ) → saidFrom start xs (start + i) ≡ getD xs i silent
@@ -96,7 +96,11 @@ no-place p = refl
 
 pub names-numbered : NamesNumbered
 unfolding lineOf positionIn nameOf
-names-numbered = record { channels = refl; blind-up-down = refl }
+names-numbered = record { channels = refl; blind-up-down = refl; two-blinds = refl }
+
+pub blinds-numbered : BlindsNumbered
+unfolding lineOf positionIn blindOf
+blinds-numbered = record { blind = refl; blinds = refl; states = refl; states-1 = refl; states-2 = refl }
 
 spoken : (kind : ℕ) (m : Command) → Spoken kind m (meaningOf kind m)
 unfolding Spoken meaningOf
@@ -110,10 +114,10 @@ spoken kind (NameThree n a b c d) = all-told (characterPlace kind (nameOf kind n
 spoken kind (Leds g mask) = some-leds g mask
 spoken kind (LedsAll on slow fast) = all-leds on slow fast
 spoken kind (InputStatus x on slow fast) = all-leds on slow fast
-spoken kind (BlindStatus n a state c d e f) = all-told (blindPlace 1) (state ∷ [])
-spoken kind (BlindStop n) = all-asked (blindPlace 1) 1
-spoken kind (BlindUp n t) = all-asked (blindPlace 1) 1
-spoken kind (BlindDown n t) = all-asked (blindPlace 1) 1
+spoken kind (BlindStatus n a state c d e f) = all-told (namedBlind kind n) (blindState kind n state ∷ [])
+spoken kind (BlindStop n) = all-asked (namedBlind kind n) 1
+spoken kind (BlindUp n t) = all-asked (namedBlind kind n) 1
+spoken kind (BlindDown n t) = all-asked (namedBlind kind n) 1
 spoken kind (TypeLong k a b c year week) = (refl, build year week)
 spoken kind (TypeShort k a year week) = (refl, build year week)
 spoken kind (Buttons a b c) = no-place

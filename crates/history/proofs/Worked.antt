@@ -3,7 +3,7 @@ use native.Mathlib.Omega.{arith}
 use mathlib.Core.Path.{refl, ap}
 use mathlib.Core.List.{[], reverse}
 use Rattle.laws.specs.Tab.{tab}
-use Rattle.frame.specs.Types.{lineOf, rowsOf, extentOf}
+use Rattle.frame.specs.Types.{lineOf, rowsOf, extentOf, positionIn, blindOf}
 use Rattle.judging.specs.Reading.{reading, commandRead, requestRead}
 use Rattle.places.specs.Places.{cellAsked, ledAsked, blindAsked}
 use Rattle.places.specs.Runs.{saidFrom, meaningOf, meant, readAs}
@@ -14,7 +14,7 @@ use Rattle.history.specs.Cases.{example, Worked}
 use Rattle.history.proofs.Demand3.{demand-3}
 
 pub worked : Worked
-unfolding tab lineOf rowsOf extentOf reading commandRead requestRead cellAsked ledAsked blindAsked saidFrom meaningOf meant readAs sense meaning typed typeOf after gave latest more listed judged judgement stands butLatest struck counted standing kept toldAs toldReply
+unfolding tab lineOf rowsOf extentOf positionIn blindOf reading commandRead requestRead cellAsked ledAsked blindAsked saidFrom meaningOf meant readAs sense meaning typed typeOf after gave latest more listed judged judgement stands butLatest struck counted standing kept toldAs toldReply
 worked =
     record {
       numbers = refl;

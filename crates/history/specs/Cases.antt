@@ -23,12 +23,19 @@ low bytes = hear (record { identifier = 1620; remote = 0; bytes = bytes })
 abbrev pub high : List ℕ → Event
 high bytes = hear (record { identifier = 84; remote = 0; bytes = bytes })
 
--- a VMB8IR and a VMB1BL enter
+-- a VMB8IR, a VMB1BL and a VMB2BL enter
 abbrev pub ir : Event
 ir = low (0xFF ∷ 0x0A ∷ 0x12 ∷ 0x34 ∷ 0x01 ∷ 0x0C ∷ 0x05 ∷ [])
 
 abbrev pub bl : Event
 bl = low (0xFF ∷ 0x03 ∷ 0x00 ∷ 0x0C ∷ 0x05 ∷ [])
+
+abbrev pub bl2 : Event
+bl2 = low (0xFF ∷ 0x09 ∷ 0x0F ∷ 0x0C ∷ 0x05 ∷ [])
+
+-- the blind of that byte is in the state of that byte
+abbrev pub status : ℕ → ℕ → Event
+status channel state = low (0xEC ∷ channel ∷ 0x00 ∷ state ∷ 0x00 ∷ 0x00 ∷ 0x00 ∷ 0x00 ∷ [])
 
 -- what the standing frames tell after the events, from a fresh picture of the depth d
 abbrev pub toldTo : ℕ → List Event → Question → List ℕ → Reply
@@ -57,10 +64,19 @@ cases =
     ∷ case (ir ∷ low (0xCC ∷ 0x00 ∷ 0x80 ∷ 0x05 ∷ 0x2A ∷ 0x03 ∷ 0x4C ∷ []) ∷ []) (cell 0x83) (Value 0x4C)
     ∷ case (ir ∷ low (0xCC ∷ 0x00 ∷ 0x80 ∷ 0x05 ∷ 0x2A ∷ 0x03 ∷ 0x4C ∷ []) ∷ back ∷ []) (cell 0x83) NotHeard
     -- the blind's state told, and unknown once it is moved
-    ∷ case (bl ∷ low (0xEC ∷ 0x03 ∷ 0x00 ∷ 0x02 ∷ 0x00 ∷ 0x00 ∷ 0x00 ∷ 0x00 ∷ []) ∷ []) (blind 1) (Value 2)
-    ∷ case (bl ∷ low (0xEC ∷ 0x03 ∷ 0x00 ∷ 0x02 ∷ 0x00 ∷ 0x00 ∷ 0x00 ∷ 0x00 ∷ []) ∷ high (0x04 ∷ 0x03 ∷ []) ∷ []) (blind 1) NotHeard
+    ∷ case (bl ∷ status 0x03 0x02 ∷ []) (blind 1) (Value 2)
+    ∷ case (bl ∷ status 0x03 0x02 ∷ high (0x04 ∷ 0x03 ∷ []) ∷ []) (blind 1) NotHeard
+    -- two blinds, each by itself
+    ∷ case (bl2 ∷ status 0x03 0x01 ∷ []) (blind 2) NotHeard
+    ∷ case (bl2 ∷ status 0x03 0x01 ∷ status 0x0C 0x08 ∷ []) (blind 1) (Value 1)
+    ∷ case (bl2 ∷ status 0x03 0x01 ∷ status 0x0C 0x08 ∷ []) (blind 2) (Value 2)
+    ∷ case (bl2 ∷ status 0x03 0x01 ∷ status 0x0C 0x08 ∷ high (0x04 ∷ 0x0C ∷ []) ∷ []) (blind 1) (Value 1)
+    ∷ case (bl2 ∷ status 0x03 0x01 ∷ status 0x0C 0x08 ∷ high (0x04 ∷ 0x0C ∷ []) ∷ []) (blind 2) NotHeard
+    ∷ case (bl2 ∷ []) (blind 3) (Refused noSuchPlace)
+    ∷ case (bl ∷ []) (blind 2) (Refused noSuchPlace)
     -- an exchanged module keeps nothing
     ∷ case (ir ∷ low (0xFE ∷ 0x00 ∷ 0x05 ∷ 0x2A ∷ []) ∷ bl ∷ []) (cell 5) NotHeard
+    ∷ case (bl ∷ status 0x03 0x01 ∷ bl2 ∷ []) (blind 1) NotHeard
     ∷ case (ir ∷ bl ∷ []) (cell 128) (Refused noSuchPlace)
     ∷ case (ir ∷ bl ∷ []) (led 1) (Refused noSuchPlace)
     ∷ case (ir ∷ []) (blind 1) (Refused noSuchPlace)

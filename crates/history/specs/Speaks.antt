@@ -12,9 +12,9 @@ use Rattle.frame.specs.declared.messages.Command.{Command}
 use Rattle.frame.specs.declared.messages.Command.the-variants.{TypeLong, TypeShort, Buttons, CellTold, BlockTold, CellAsked, BlockAsked, DumpAsked, CellSet, BlockSet, Errors, ErrorsAsked, NameOne, NameTwo, NameThree, NameAsked, StatusAsked, InputStatus, LedsAll, Leds, BlindStatus, BlindStop, BlindUp, BlindDown}
 use Rattle.frame.specs.declared.messages.Message.{Message}
 use Rattle.frame.specs.declared.messages.Message.the-variants.{TypeRequest, Tells}
-use Rattle.frame.specs.Types.{nameOf}
+use Rattle.frame.specs.Types.{nameOf, blindOf}
 use Rattle.places.specs.Places.{yearPlace, weekPlace, ledPlace, blindPlace, characterPlace, cellPlace}
-use Rattle.places.specs.Runs.{Saying, silent, asks, tells, Run, said, Meaning, refuses, names, enters, meant}
+use Rattle.places.specs.Runs.{Saying, silent, asks, tells, Run, said, blindState, Meaning, refuses, names, enters, meant}
 
 -- ---- what is said
 -- a row of values, told one after the other; a change asked for, of each
@@ -78,10 +78,20 @@ Enters k run (enters t r) = (t ≡ k) × run r
 abbrev pub Names : ℕ → ℕ → (ℕ → Saying) → Meaning → Type 0
 Names start n of = Says (Just start n of)
 
--- ---- the number of the name that a channel's byte stands for: of H'0A' by its bit; of H'03' the blind, the up button, the down button
+-- ---- the number of the name that a channel's byte stands for: of H'0A' by its bit; of H'03' the blind, the up button, the down button; of H'09'
+-- both blinds, up 1, down 1, up 2, down 2
 pub record NamesNumbered : Type 0 where
   pub channels : map (nameOf 0x0A) (0x01 ∷ 0x02 ∷ 0x04 ∷ 0x08 ∷ 0x10 ∷ 0x20 ∷ 0x40 ∷ 0x80 ∷ []) ≡ 1 ∷ 2 ∷ 3 ∷ 4 ∷ 5 ∷ 6 ∷ 7 ∷ 8 ∷ []
   pub blind-up-down : map (nameOf 0x03) (0x03 ∷ 0x10 ∷ 0x20 ∷ []) ≡ 1 ∷ 2 ∷ 3 ∷ []
+  pub two-blinds : map (nameOf 0x09) (0x03 ∷ 0x0C ∷ 0x10 ∷ 0x20 ∷ 0x40 ∷ 0x80 ∷ []) ≡ 1 ∷ 2 ∷ 3 ∷ 4 ∷ 5 ∷ 6 ∷ []
+
+-- the number of the blind that a byte stands for; and its state by EC's byte 4: off, up, down
+pub record BlindsNumbered : Type 0 where
+  pub blind : map (blindOf 0x03) (0x03 ∷ []) ≡ 1 ∷ []
+  pub blinds : map (blindOf 0x09) (0x03 ∷ 0x0C ∷ []) ≡ 1 ∷ 2 ∷ []
+  pub states : map (blindState 0x03 0x03) (0 ∷ 1 ∷ 2 ∷ []) ≡ 0 ∷ 1 ∷ 2 ∷ []
+  pub states-1 : map (blindState 0x09 0x03) (0 ∷ 1 ∷ 2 ∷ []) ≡ 0 ∷ 1 ∷ 2 ∷ []
+  pub states-2 : map (blindState 0x09 0x0C) (0 ∷ 4 ∷ 8 ∷ []) ≡ 0 ∷ 1 ∷ 2 ∷ []
 
 -- ---- the table: what each command says at a module of the type `kind`
 unfoldable pub Spoken : ℕ → Command → Meaning → Type 0
@@ -98,11 +108,11 @@ Spoken kind (NameThree n a b c d) = Names (characterPlace kind (nameOf kind n) 1
 Spoken kind (Leds g mask) = Names (ledPlace 1) 8 (tellsIf g mask)
 Spoken kind (LedsAll on slow fast) = Names (ledPlace 1) 8 (tellsLed on slow fast)
 Spoken kind (InputStatus x on slow fast) = Names (ledPlace 1) 8 (tellsLed on slow fast)
--- EC tells the blind's state; 04, 05 and 06 make it unknown
-Spoken kind (BlindStatus n a state c d e f) = Names (blindPlace 1) 1 (tellsOf (state ∷ []))
-Spoken kind (BlindStop n) = Names (blindPlace 1) 1 asksAll
-Spoken kind (BlindUp n t) = Names (blindPlace 1) 1 asksAll
-Spoken kind (BlindDown n t) = Names (blindPlace 1) 1 asksAll
+-- EC tells the state of the blind that it names; 04, 05 and 06 make the state of theirs unknown, and no other's
+Spoken kind (BlindStatus n a state c d e f) = Names (blindPlace (blindOf kind n)) 1 (tellsOf (blindState kind n state ∷ []))
+Spoken kind (BlindStop n) = Names (blindPlace (blindOf kind n)) 1 asksAll
+Spoken kind (BlindUp n t) = Names (blindPlace (blindOf kind n)) 1 asksAll
+Spoken kind (BlindDown n t) = Names (blindPlace (blindOf kind n)) 1 asksAll
 -- FF enters the type inside it and tells the build: its last two bytes
 Spoken kind (TypeLong k a b c year week) = Enters k (Build year week)
 Spoken kind (TypeShort k a year week) = Enters k (Build year week)

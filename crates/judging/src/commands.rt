@@ -23,6 +23,7 @@ use laws::NOT_LISTED;
 use laws::WRONG_LENGTH;
 use laws::WRONG_PRIORITY;
 use laws::byte_at;
+use laws::wide32;
 ghost use mathlib.Core.Path.{_≡_};
 ghost use Prim.Native.Nat.{ℕ};
 ghost use Rattle.frame.specs.Bytes.{byte, dataOf, bytesOf};
@@ -63,10 +64,11 @@ fn time_in(data: &[u8]) -> Time
 fn type_fault(data: &[u8]) -> u16
     ensures { λ r. ⌜ ((own : ℕ) → r ≡ fieldRefusal (fault own (typeFrame (now («data» .entry))))) ⌝ }
 {
-    if has_long(byte_at(data, 1)) {
+    let own = byte_at(data, 1);
+    if has_long(own) {
         0
     } else {
-        type_short_fault(byte_at(data, 2))
+        type_short_fault(wide32(own), byte_at(data, 2))
     }
 }
 

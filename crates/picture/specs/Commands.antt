@@ -7,7 +7,7 @@ use Rattle.places.specs.Runs.{Run, runIn, meaningOf, commandOf}
 abbrev pub namedBy : ℕ → List ℕ → Run
 namedBy kind s = runIn (meaningOf kind (commandOf s))
 
--- the commands that name cells, characters of names, LEDs, the blind; every other but the type frame names no place
+-- the commands that name cells, characters of names, LEDs, a blind; every other but the type frame names no place
 abbrev pub cellCommands : List ℕ
 cellCommands = 0xFE ∷ 0xCC ∷ 0xFC ∷ 0xCA ∷ []
 

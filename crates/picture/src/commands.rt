@@ -13,7 +13,8 @@ use frame::name_of;
 use laws::byte_at;
 use laws::wide16;
 use laws::wide32;
-use places::BLINDS;
+use places::blind_place;
+use places::blind_state;
 use places::cell_place;
 use places::character_place;
 use places::glow_number;
@@ -28,6 +29,7 @@ ghost use Rattle.frame.specs.Bytes.{byte};
 ghost use Rattle.frame.specs.Messages.{typeCommand, locationIn};
 ghost use Rattle.places.specs.Limits.{room};
 ghost use Rattle.places.specs.Places.{places, cellPlace, characterPlace};
+ghost use Rattle.places.specs.Runs.{namedBlind, blindState};
 ghost use Rattle.places.specs.Fitting.{endOf};
 ghost use Rattle.places.specs.Layout.{size};
 ghost use Rattle.picture.specs.Hearing.{naming};
@@ -50,7 +52,20 @@ fn character_in(kind: u8, data: &[u8], i: u8) -> u32
     character_place(kind, name, i)
 }
 
-// Of the commands that name no cell, no character and no LED: those on the blind.
+// The place of the blind that byte 2 of a frame names, and what byte 4 says of it.
+fn blind_in(kind: u8, data: &[u8]) -> u32
+    ensures { λ r. ⌜ r ≡ namedBlind kind (byte 2 (now («data» .entry))) ⌝ }
+{
+    blind_place(kind, byte_at(data, 1))
+}
+
+fn state_in(kind: u8, data: &[u8]) -> u8
+    ensures { λ r. ⌜ r ≡ blindState kind (byte 2 (now («data» .entry))) (byte 4 (now («data» .entry))) ⌝ }
+{
+    blind_state(kind, byte_at(data, 1), byte_at(data, 3))
+}
+
+// Of the commands that name no cell, no character and no LED: those on a blind.
 fn tell_blind(picture: &mut [u8], slot: u8, kind: u8, command: u8, data: &[u8])
     requires { ⌜ (size ≤ length (now picture)) × (slot < room) × (command ≡ byte 1 (now «data»)) ⌝ }
     requires { ⌜ endOf (namedBy kind (now «data»)) ≤ places ⌝ }
@@ -58,10 +73,10 @@ fn tell_blind(picture: &mut [u8], slot: u8, kind: u8, command: u8, data: &[u8])
     ensures { λ _. ⌜ now (picture .exit) ≡ naming (now (picture .entry)) slot (namedBy kind (now («data» .entry))) ⌝ }
 {
     match command {
-        0xEC => tell_one(picture, slot, BLINDS, byte_at(data, 3)),
-        0x04 => ask_one(picture, slot, BLINDS),
-        0x05 => ask_one(picture, slot, BLINDS),
-        0x06 => ask_one(picture, slot, BLINDS),
+        0xEC => tell_one(picture, slot, blind_in(kind, data), state_in(kind, data)),
+        0x04 => ask_one(picture, slot, blind_in(kind, data)),
+        0x05 => ask_one(picture, slot, blind_in(kind, data)),
+        0x06 => ask_one(picture, slot, blind_in(kind, data)),
         _ => pass(picture),
     }
 }

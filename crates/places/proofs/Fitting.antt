@@ -13,7 +13,7 @@ use Rattle.laws.specs.Tab.{tab}
 use Rattle.laws.specs.Tests.{among, unless}
 use Rattle.laws.proofs.Testing.{_&_, held, unrefused, or-right}
 use Rattle.frame.specs.Identifiers.{priorityOf, addressOf, low}
-use Rattle.frame.specs.Types.{longType, Line, types, noLine, lineOf, rowFor, isListed, namesInMemory, cellsOf, ledsOf, blindsOf, channelsOf, lastCell, lastStart, extentOf, positionIn, nameOf}
+use Rattle.frame.specs.Types.{longType, Line, types, noLine, lineOf, rowFor, isListed, namesInMemory, cellsOf, ledsOf, blindsOf, channelsOf, lastCell, lastStart, extentOf, positionIn, nameOf, blindOf}
 use Rattle.frame.specs.Bytes.{byte, dataOf, bytesOf}
 use Rattle.frame.specs.Messages.{typeCommand, locationIn, readers, decode}
 use Rattle.frame.specs.Fields.{locationFault, channelAllowed, isBlind, fault}
@@ -32,8 +32,8 @@ use Rattle.laws.proofs.Keys.{every}
 use Rattle.judging.proofs.Judged.{command-held}
 use Rattle.frame.proofs.Listed.{of-line, of-listed}
 use Rattle.places.specs.Limits.{mostPlaces}
-use Rattle.places.specs.Places.{places, ledPlace, blindPlace, firstCharacter, characterPlace, cellPlace}
-use Rattle.places.specs.Runs.{Run, noRun, telling, asking, buildTold, characters, someLeds, allLeds, Meaning, refuses, names, enters, meaningOf, meant, readAs}
+use Rattle.places.specs.Places.{places, ledPlace, firstCharacter, characterPlace, cellPlace}
+use Rattle.places.specs.Runs.{Run, noRun, telling, asking, buildTold, characters, namedBlind, blindState, someLeds, allLeds, Meaning, refuses, names, enters, meaningOf, meant, readAs}
 use Rattle.places.specs.Fitting.{endOf, Lies, in-build, in-leds, in-blinds, in-names, in-cells, LiesAs, RunsLie, FitsAs, RunsFit}
 use Rattle.places.proofs.Readers.{AllRead, read-as}
 
@@ -125,14 +125,11 @@ leds-placed : (kind : ℕ) (r : Run) → ledsOf kind ≡ 8 → r .start ≡ ledP
 unfolding extentOf
 leds-placed kind r e s c = record { lies = in-leds {kind = kind} {r = r} (omega arith) (omega arith); few = omega arith }
 
-among-some : (ks : List ℕ) (x : ℕ) → among x ks ≡ true → 1 ≤ length ks
-among-some [] x e = absurd (let z : _≡_ {A = ℕ} 0 1 = cc in omega arith)
-among-some (k ∷ ks) x e = omega arith
-
-blind-placed : (kind channel later : ℕ) (r : Run) → r .start ≡ blindPlace 1 → length (r .says) ≡ 1 → unless (isBlind kind channel) 2 later ≡ 0 → Placed kind r
-unfolding extentOf
+-- the blind that is named
+blind-placed : (kind channel later : ℕ) (r : Run) → r .start ≡ namedBlind kind channel → length (r .says) ≡ 1 → unless (isBlind kind channel) 2 later ≡ 0 → Placed kind r
+unfolding blindOf extentOf
 blind-placed kind channel later r s c e =
-    let b = among-some (blindsOf kind) channel (held (isBlind kind channel) 2 later (omega arith) e .0) in
+    let b = position-lt (blindsOf kind) channel (held (isBlind kind channel) 2 later (omega arith) e .0) in
     record { lies = in-blinds {kind = kind} {r = r} (omega arith) (omega arith); few = omega arith }
 
 -- the commands that name LEDs; a type that has one of them has eight LEDs, and every type has four cells
@@ -187,10 +184,10 @@ readers-right kind d z =
     & (λ l q. leds-placed kind (someLeds (byte 2 d) 2) (l refl) refl refl)
     & (λ l q. leds-placed kind (someLeds (byte 2 d) 3) (l refl) refl refl)
     & (λ l q. leds-placed kind (someLeds (byte 2 d) 4) (l refl) refl refl)
-    & (λ l q. blind-placed kind (byte 2 d) _ (telling (blindPlace 1) (byte 4 d ∷ [])) refl refl q)
-    & (λ l q. blind-placed kind (byte 2 d) _ (asking (blindPlace 1) 1) refl refl q)
-    & (λ l q. blind-placed kind (byte 2 d) _ (asking (blindPlace 1) 1) refl refl q)
-    & (λ l q. blind-placed kind (byte 2 d) _ (asking (blindPlace 1) 1) refl refl q)
+    & (λ l q. blind-placed kind (byte 2 d) _ (telling (namedBlind kind (byte 2 d)) (blindState kind (byte 2 d) (byte 4 d) ∷ [])) refl refl q)
+    & (λ l q. blind-placed kind (byte 2 d) _ (asking (namedBlind kind (byte 2 d)) 1) refl refl q)
+    & (λ l q. blind-placed kind (byte 2 d) _ (asking (namedBlind kind (byte 2 d)) 1) refl refl q)
+    & (λ l q. blind-placed kind (byte 2 d) _ (asking (namedBlind kind (byte 2 d)) 1) refl refl q)
     & (λ l q. type-placed kind (eqb (rowFor (byte 2 d) typeCommand .0) longType) (byte 2 d) (byte 3 d) (byte 4 d) (byte 5 d) (byte 6 d) (byte 7 d))
     & tt
 

@@ -6,7 +6,7 @@ use mathlib.Core.List.{List, [], _∷_, map}
 use lib.Dec.{eqb}
 use lib.ListN.{replicate}
 use Rattle.laws.specs.Tab.{tab}
-use Rattle.frame.specs.Types.{nameOf}
+use Rattle.frame.specs.Types.{nameOf, blindOf, upBit}
 use Rattle.frame.specs.Bytes.{dataOf, bytesOf}
 use Rattle.frame.specs.Messages.{decode}
 use Rattle.frame.specs.declared.messages.Glow.{Glow}
@@ -89,6 +89,13 @@ someLeds mask value = run (ledPlace 1) (tab 8 (ledIf mask value))
 abbrev pub characters : ℕ → ℕ → ℕ → List ℕ → Run
 characters kind channel i values = telling (characterPlace kind (nameOf kind channel) i) values
 
+-- the place of the blind that a byte stands for, and what EC's byte 4 says of it: 0 off, 1 up, 2 down
+abbrev pub namedBlind : ℕ → ℕ → ℕ
+namedBlind kind channel = blindPlace (blindOf kind channel)
+
+abbrev pub blindState : ℕ → ℕ → ℕ → ℕ
+blindState kind channel state = state / upBit (blindOf kind channel)
+
 -- What a frame means: a refusal; a run of places that it names; or an entry of a type, with the run that holds the build.
 pub data Meaning : Type 0 where
   refuses : ℕ → Meaning
@@ -109,10 +116,10 @@ meaningOf kind (NameThree n a b c d) = names (characters kind n 13 (a ∷ b ∷ 
 meaningOf kind (Leds g mask) = names (someLeds mask (glowNumber g))
 meaningOf kind (LedsAll on slow fast) = names (allLeds on slow fast)
 meaningOf kind (InputStatus a on slow fast) = names (allLeds on slow fast)
-meaningOf kind (BlindStatus n a state c d e f) = names (telling (blindPlace 1) (state ∷ []))
-meaningOf kind (BlindStop n) = names (asking (blindPlace 1) 1)
-meaningOf kind (BlindUp n t) = names (asking (blindPlace 1) 1)
-meaningOf kind (BlindDown n t) = names (asking (blindPlace 1) 1)
+meaningOf kind (BlindStatus n a state c d e f) = names (telling (namedBlind kind n) (blindState kind n state ∷ []))
+meaningOf kind (BlindStop n) = names (asking (namedBlind kind n) 1)
+meaningOf kind (BlindUp n t) = names (asking (namedBlind kind n) 1)
+meaningOf kind (BlindDown n t) = names (asking (namedBlind kind n) 1)
 meaningOf kind (Buttons a b c) = names noRun
 meaningOf kind (CellAsked l) = names noRun
 meaningOf kind (BlockAsked l) = names noRun

@@ -1,14 +1,17 @@
 // The places of a module, one map for every type: build year, build week, LEDs, blinds, characters of names, cells. Where a type's names live in
 // its memory, a character and its cell are one place.
 use frame::Location;
+use frame::blind_of;
 use frame::extent_of;
 use frame::names_in_memory;
+use frame::up_bit;
 use laws::both;
 use laws::wide32;
 ghost use mathlib.Core.Path.{_≡_};
 ghost use mathlib.Core.Bool.{cond};
 ghost use Prim.Native.Nat.{_+_, _-_, _≤_};
 ghost use Rattle.places.specs.Places.{cellAsked, ledAsked, blindAsked, hasName, within, nowhere, firstCharacter, characterPlace, cellPlace};
+ghost use Rattle.places.specs.Runs.{namedBlind, blindState};
 
 // How many places there are, and the number that stands for no place.
 pub const PLACES: usize = 512;
@@ -22,7 +25,7 @@ pub const WEEK: u32 = 1;
 
 pub const LEDS: u32 = 2;
 
-pub const BLINDS: u32 = 10;
+const BLINDS: u32 = 10;
 
 const NAMES: u32 = 16;
 
@@ -65,6 +68,22 @@ pub fn character_place(kind: u8, name: u8, i: u8) -> u32
     ensures { λ r. ⌜ r ≡ characterPlace kind name i ⌝ }
 {
     first_character(kind) + NAME_LENGTH * from_zero(name) + from_zero(i)
+}
+
+// Where the state of the blind lies that a byte stands for.
+pub fn blind_place(kind: u8, channel: u8) -> u32
+    ensures { λ r. ⌜ r ≡ namedBlind kind channel ⌝ }
+{
+    let n = blind_of(wide32(kind), channel);
+    BLINDS + from_zero(n)
+}
+
+// What byte 4 of its status says of it: 0 off, 1 up, 2 down.
+pub fn blind_state(kind: u8, channel: u8, state: u8) -> u8
+    ensures { λ r. ⌜ r ≡ blindState kind channel state ⌝ }
+{
+    let up = up_bit(wide32(kind), channel);
+    state / up
 }
 
 pub fn cell_place(kind: u8, location: Location) -> u32

@@ -5,6 +5,7 @@ use crate::rows::NO_CALL;
 use crate::text::part;
 use crate::words::Reader;
 use frame::VMB1BL;
+use frame::VMB2BL;
 use frame::VMB8IR;
 use places::Answer;
 use places::Outcome;
@@ -45,6 +46,7 @@ fn type_frame(kind: u32) -> [u8; 8] {
     match kind {
         VMB8IR => [7, 0xFF, 0x0A, 0x12, 0x34, 0x01, 0x0C, 0x05],
         VMB1BL => [5, 0xFF, 0x03, 0x02, 0x08, 0x0F, 0, 0],
+        VMB2BL => [5, 0xFF, 0x09, 0x0F, 0x08, 0x0F, 0, 0],
         _ => [0; 8],
     }
 }

@@ -12,7 +12,7 @@ use crate::text::word;
 use laws::byte_at;
 
 // The types by their numbers.
-pub const TYPES: [u8; 46] = *b"untyped/01/02/VMB1BL/04/05/06/07/08/09/VMB8IR/";
+pub const TYPES: [u8; 50] = *b"untyped/01/02/VMB1BL/04/05/06/07/08/VMB2BL/VMB8IR/";
 
 // The priorities, and the remote flags, by their numbers.
 pub const PRIORITIES: [u8; 22] = *b"high/second/third/low/";

@@ -3,12 +3,13 @@
 use Prim.Native.Nat.{ℕ, _+_, _*_, _/_, _%_, _<_, _≤_}
 use native.Mathlib.Omega.{arith}
 use mathlib.Core.Path.{_≡_, refl}
-use mathlib.Core.List.{List, [], _∷_, _++_}
+use mathlib.Core.List.{List, [], _∷_, _++_, map}
 use mathlib.Core.Bool.{Bool, true, false, cond}
 use lib.Dec.{eqb}
 use lib.ListN.{length, length-append}
-use borrow.Author.Tests.{eqb-true, eq-eqb, le-ltb}
-use Rattle.frame.specs.Types.{vmb1bl, vmb8ir}
+use borrow.Author.Tests.{eq-eqb, le-ltb}
+use Rattle.laws.specs.Tests.{among}
+use Rattle.laws.proofs.Testing.{_&_, among-each}
 use Rattle.frame.specs.declared.identifiers.Address.{Address}
 use Rattle.frame.specs.declared.messages.Time.the-variants.{DipSwitch, Permanently, Seconds}
 use Rattle.frame.specs.declared.messages.Glow.the-variants.{Off, On, Slow, Fast, VeryFast}
@@ -19,7 +20,7 @@ use Rattle.frame.specs.declared.messages.Message.the-variants.{TypeRequest, Tel
 use Rattle.velbus.specs.declared.parts.Six.{Six}
 use Rattle.velbus.specs.declared.parts.Parts.{Parts}
 use Rattle.velbus.specs.declared.parts.Held.the-variants.{Holds}
-use Rattle.velbus.specs.Parts.{noMessage, numberIn, commandParts, partsOf, commandFrom, messageFrom, addressIn, sameSix, sameParts, heldBy}
+use Rattle.velbus.specs.Parts.{Numbered, longTypes, shortTypes, noMessage, numberIn, commandParts, partsOf, commandFrom, messageFrom, addressIn, sameSix, sameParts, heldBy}
 use Rattle.velbus.specs.Layout.{messageSize, laidBytes, takenParts, blankBetween, heldIn}
 use Rattle.velbus.specs.Statements.{LaidIsHeld}
 
@@ -28,27 +29,40 @@ use Rattle.velbus.specs.Statements.{LaidIsHeld}
 abbrev Again : Address → Message → Parts → Type 0
 Again a m p = (addressIn p ≡ a) × (messageFrom p ≡ m)
 
--- a type that has a number in a table of one line is that line's
-one-type : (t n k : ℕ) → numberIn (record { kind = t; what = n } ∷ []) k < noMessage → k ≡ t
+-- a type that has a number in a table is of one of its lines
+abbrev kindsIn : List Numbered → List ℕ
+kindsIn ls = map (λ (l : Numbered). l .kind) ls
+
+has-line : (ls : List Numbered) (k : ℕ) → numberIn ls k < noMessage → among k (kindsIn ls) ≡ true
 unfolding numberIn
-one-type t n k = go (eqb k t) (eqb-true k t)
+has-line [] k h = absurd (omega arith)
+has-line (l ∷ ls) k h = go (eqb k (l .kind)) (has-line ls k) h
   where
-    go : (b : Bool) → (b ≡ true → k ≡ t) → cond b n noMessage < noMessage → k ≡ t
-    go true q h = q refl
-    go false q h = absurd (omega arith)
+    go :
+        (b : Bool) → (numberIn ls k < noMessage → among k (kindsIn ls) ≡ true) → cond b (l .what) (numberIn ls k) < noMessage →
+        cond b true (among k (kindsIn ls)) ≡ true
+    go true later h = refl
+    go false later h = later h
 
-long-again : (a : Address) (k b c d e f : ℕ) → k ≡ vmb8ir → Again a (Tells (TypeLong k b c d e f)) (commandParts a (TypeLong k b c d e f))
+long-again :
+    (a : Address) (k b c d e f : ℕ) → numberIn longTypes k < noMessage → Again a (Tells (TypeLong k b c d e f)) (commandParts a (TypeLong k b c d e f))
 unfolding commandParts messageFrom commandFrom numberIn
-long-again a k b c d e f q = rw q (refl, refl)
+long-again a k b c d e f h =
+    among-each (λ k. Again a (Tells (TypeLong k b c d e f)) (commandParts a (TypeLong k b c d e f))) k (kindsIn longTypes)
+    ((refl, refl) & tt)
+    (has-line longTypes k h)
 
-short-again : (a : Address) (k b c d : ℕ) → k ≡ vmb1bl → Again a (Tells (TypeShort k b c d)) (commandParts a (TypeShort k b c d))
+short-again : (a : Address) (k b c d : ℕ) → numberIn shortTypes k < noMessage → Again a (Tells (TypeShort k b c d)) (commandParts a (TypeShort k b c d))
 unfolding commandParts messageFrom commandFrom numberIn
-short-again a k b c d q = rw q (refl, refl)
+short-again a k b c d h =
+    among-each (λ k. Again a (Tells (TypeShort k b c d)) (commandParts a (TypeShort k b c d))) k (kindsIn shortTypes)
+    ((refl, refl) & (refl, refl) & tt)
+    (has-line shortTypes k h)
 
 command-again : (a : Address) (m : Command) → commandParts a m .what < noMessage → Again a (Tells m) (commandParts a m)
 unfolding commandParts messageFrom commandFrom
-command-again a (TypeLong k b c d e f) h = long-again a k b c d e f (one-type vmb8ir 1 k h)
-command-again a (TypeShort k b c d) h = short-again a k b c d (one-type vmb1bl 2 k h)
+command-again a (TypeLong k b c d e f) h = long-again a k b c d e f h
+command-again a (TypeShort k b c d) h = short-again a k b c d h
 command-again a (Buttons b c d) h = (refl, refl)
 command-again a (CellTold l v) h = (refl, refl)
 command-again a (BlockTold l b c d e) h = (refl, refl)

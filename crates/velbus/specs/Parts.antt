@@ -4,7 +4,7 @@ use mathlib.Core.List.{List, [], _∷_}
 use mathlib.Core.Bool.{Bool, cond, _&&_}
 use lib.Dec.{eqb}
 use Rattle.laws.specs.Tests.{firstFor}
-use Rattle.frame.specs.Types.{vmb1bl, vmb8ir}
+use Rattle.frame.specs.Types.{vmb1bl, vmb8ir, vmb2bl}
 use Rattle.frame.specs.declared.identifiers.Address.{Address}
 use Rattle.frame.specs.declared.messages.Location.{Location}
 use Rattle.frame.specs.declared.messages.Time.{Time}
@@ -74,7 +74,7 @@ abbrev pub longTypes : List Numbered
 longTypes = record { kind = vmb8ir; what = 1 } ∷ []
 
 abbrev pub shortTypes : List Numbered
-shortTypes = record { kind = vmb1bl; what = 2 } ∷ []
+shortTypes = record { kind = vmb1bl; what = 2 } ∷ record { kind = vmb2bl; what = 25 } ∷ []
 
 -- the number that no message has
 abbrev pub noMessage : ℕ
@@ -155,6 +155,7 @@ makers =
     ∷ by 22 (λ p. BlindStop (p .channel))
     ∷ by 23 (λ p. BlindUp (p .channel) (span p))
     ∷ by 24 (λ p. BlindDown (p .channel) (span p))
+    ∷ by 25 (λ p. TypeShort vmb2bl (p .bytes .0) (p .bytes .1) (p .bytes .2))
     ∷ []
 
 -- parts with a number that no message has are no message, whatever they would make

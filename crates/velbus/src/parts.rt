@@ -6,6 +6,7 @@ use frame::Location;
 use frame::Message;
 use frame::Time;
 use frame::VMB1BL;
+use frame::VMB2BL;
 use frame::VMB8IR;
 use laws::both;
 use places::glow_number;
@@ -50,7 +51,9 @@ pub struct Parts {
 // The type numbers as they stand in a frame.
 const LONG_TYPE: u8 = VMB8IR as u8;
 
-const SHORT_TYPE: u8 = VMB1BL as u8;
+const ONE_BLIND: u8 = VMB1BL as u8;
+
+const TWO_BLINDS: u8 = VMB2BL as u8;
 
 // The number that no message has.
 const NO_MESSAGE: u8 = 255;
@@ -192,7 +195,8 @@ fn short_number(kind: u8) -> u8
     ensures { λ r. ⌜ r ≡ numberIn shortTypes kind ⌝ }
 {
     match kind {
-        SHORT_TYPE => 2,
+        ONE_BLIND => 2,
+        TWO_BLINDS => 25,
         _ => NO_MESSAGE,
     }
 }
@@ -248,7 +252,7 @@ fn command_from(p: Parts) -> Command
     let what = p.what;
     match what {
         1 => Command::TypeLong(LONG_TYPE, s.0, s.1, s.2, s.3, s.4),
-        2 => Command::TypeShort(SHORT_TYPE, s.0, s.1, s.2),
+        2 => Command::TypeShort(ONE_BLIND, s.0, s.1, s.2),
         3 => Command::Buttons(s.0, s.1, s.2),
         4 => Command::CellTold(l, s.0),
         5 => Command::BlockTold(l, s.0, s.1, s.2, s.3),
@@ -271,6 +275,7 @@ fn command_from(p: Parts) -> Command
         22 => Command::BlindStop(p.channel),
         23 => Command::BlindUp(p.channel, t),
         24 => Command::BlindDown(p.channel, t),
+        25 => Command::TypeShort(TWO_BLINDS, s.0, s.1, s.2),
         _ => Command::DumpAsked,
     }
 }

@@ -8,7 +8,7 @@ returns : tie.Need-returns
 returns c = rw (c .enum-told .given .1)
 
 returns-2 : tie.Need-returns-2
-returns-2 c = rw (c .before .before .m .given .1, c .type-short-fault .ensures)
+returns-2 c = rw (c .before .before .before .m .given .1, c .type-short-fault .ensures, c .before .wide32 .ensures)
 
 returns-3 : tie.Need-returns-3
 returns-3 c = rw (c .before .before .m2 .given .1, c .buttons-fault .ensures)
@@ -82,6 +82,7 @@ fault-of-spec =
     (tie.spec
     (λ c. search needs)
     (λ c. search needs)
+    (λ c κs. search needs)
     (λ c κs. search needs)
     (λ c. search needs)
     (λ c κs. search needs)

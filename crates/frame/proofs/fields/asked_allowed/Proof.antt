@@ -1,7 +1,6 @@
 -- `frame::fields::asked_allowed` meets its contract.
 -- Assumes nothing.
 use native.Mathlib.Omega.{arith}
-use mathlib.Core.Path.{sym, _∙_}
 use Rattle.frame.specs.Types.{extentOf}
 use Rattle.frame.specs.Fields.{buttonsAllowed, askedAllowed}
 use Rattle.frame.proofs.Unions.{union-tested}

@@ -31,8 +31,12 @@ unfolding buttonsAllowed lineOf
 returns-2 c = rw (c .match .keys2)
 
 returns-3 : tie.Need-returns-3
+unfolding buttonsAllowed lineOf
+returns-3 c = rw (c .match .keys3)
+
+returns-4 : tie.Need-returns-4
 unfolding buttonsAllowed
-returns-3 c = rw (other-line (c .before .args .kind) (c .match .rest), channelsOf) (of-none (c .before .args .x) (omega arith))
+returns-4 c = rw (other-line (c .before .args .kind) (c .match .rest), channelsOf) (of-none (c .before .args .x) (omega arith))
 
 pub buttons-allowed-spec : {M : Type 1} → statement M
-buttons-allowed-spec = tie.close (tie.spec (λ c κs. search needs) returns returns-2 returns-3)
+buttons-allowed-spec = tie.close (tie.spec (λ c κs. search needs) returns returns-2 returns-3 returns-4)

@@ -14,8 +14,12 @@ unfolding extentOf lineOf
 returns-2 c = rw (c .match .keys2)
 
 returns-3 : tie.Need-returns-3
+unfolding extentOf lineOf
+returns-3 c = rw (c .match .keys3)
+
+returns-4 : tie.Need-returns-4
 unfolding extentOf
-returns-3 c = rw (other-line (c .before .args .kind) (c .match .rest), cellsOf, channelsOf, ledsOf, blindsOf)
+returns-4 c = rw (other-line (c .before .args .kind) (c .match .rest), cellsOf, channelsOf, ledsOf, blindsOf)
 
 pub extent-of-spec : {M : Type 1} → statement M
-extent-of-spec = tie.close (tie.spec returns returns-2 returns-3)
+extent-of-spec = tie.close (tie.spec returns returns-2 returns-3 returns-4)

@@ -13,7 +13,10 @@ returns-2 : tie.Need-returns-2
 returns-2 c = cc
 
 returns-3 : tie.Need-returns-3
-returns-3 c = sym (not-among (c .before .args .kind) moduleTypes (c .match .rest))
+returns-3 c = cc
+
+returns-4 : tie.Need-returns-4
+returns-4 c = sym (not-among (c .before .args .kind) moduleTypes (c .match .rest))
 
 pub module-type-spec : {M : Type 1} → statement M
-module-type-spec = tie.close (tie.spec returns returns-2 returns-3)
+module-type-spec = tie.close (tie.spec returns returns-2 returns-3 returns-4)

@@ -4,7 +4,7 @@ use Rattle.frame.proofs.Listed.{other-line}
 use native.Mathlib.Omega.{arith}
 use native.Mathlib.Numerals.{add-one}
 use Rattle.frame.specs.Bytes.{bits}
-use Rattle.frame.specs.Types.{nameOf, lineOf, channelsOf, positionIn, blindChannels}
+use Rattle.frame.specs.Types.{nameOf, lineOf, channelsOf, positionIn, blindChannels, twoBlindChannels}
 use Rattle.frame.proofs.Positions.{position-most}
 use borrow.Author.Needs.{needs}
 use Rattle.frame.proofs.types.name_of.Statement.{statement}
@@ -16,6 +16,9 @@ add-result c = omega (arith, c .blind-position .ensures, position-most blindChan
 add-result-2 : tie.Need-add-result-2
 add-result-2 c = omega (arith, c .bit-position .ensures, position-most bits (c .before .before .args .channel))
 
+add-result-3 : tie.Need-add-result-3
+add-result-3 c = omega (arith, c .two-blind-position .ensures, position-most twoBlindChannels (c .before .before .args .channel))
+
 returns : tie.Need-returns
 unfolding nameOf lineOf
 returns c = rw (c .before .match .keys1, add-one, c .blind-position .ensures)
@@ -25,8 +28,12 @@ unfolding nameOf lineOf
 returns-2 c = rw (c .before .match .keys2, add-one, c .bit-position .ensures)
 
 returns-3 : tie.Need-returns-3
+unfolding nameOf lineOf
+returns-3 c = rw (c .before .match .keys3, add-one, c .two-blind-position .ensures)
+
+returns-4 : tie.Need-returns-4
 unfolding nameOf positionIn
-returns-3 c = rw (other-line (c .before .args .kind) (c .match .rest), channelsOf)
+returns-4 c = rw (other-line (c .before .args .kind) (c .match .rest), channelsOf)
 
 pub name-of-spec : {M : Type 1} → statement M
 name-of-spec =
@@ -36,6 +43,9 @@ name-of-spec =
     add-result
     (λ c κs. search needs)
     add-result-2
+    (λ c κs. search needs)
+    add-result-3
     returns
     returns-2
-    returns-3)
+    returns-3
+    returns-4)

@@ -14,7 +14,11 @@ unfolding lineOf
 returns-2 c = rw (c .match .keys2)
 
 returns-3 : tie.Need-returns-3
-returns-3 c = rw (other-line (c .before .args .kind) (c .match .rest), namesInMemory)
+unfolding lineOf
+returns-3 c = rw (c .match .keys3)
+
+returns-4 : tie.Need-returns-4
+returns-4 c = rw (other-line (c .before .args .kind) (c .match .rest), namesInMemory)
 
 pub names-in-memory-spec : {M : Type 1} → statement M
-names-in-memory-spec = tie.close (tie.spec returns returns-2 returns-3)
+names-in-memory-spec = tie.close (tie.spec returns returns-2 returns-3 returns-4)

@@ -105,7 +105,11 @@ returns-24 c = rw (c .before .before .time-from .ensures, c .match .keys24)
 
 returns-25 : tie.Need-returns-25
 unfolding commandFrom
-returns-25 c = sym (passed-over (λ (m : Maker). m .what) (λ (m : Maker). m .makes (c .before .before .before .before .args .p)) unnumbered makers [] (c .before .before .before .before .args .p .what) (c .match .rest))
+returns-25 c = rw (c .match .keys25)
+
+returns-26 : tie.Need-returns-26
+unfolding commandFrom
+returns-26 c = sym (passed-over (λ (m : Maker). m .what) (λ (m : Maker). m .makes (c .before .before .before .before .args .p)) unnumbered makers [] (c .before .before .before .before .args .p .what) (c .match .rest))
 
 pub command-from-spec : {M : Type 1} → statement M
 command-from-spec =
@@ -137,4 +141,5 @@ command-from-spec =
     returns-22
     returns-23
     returns-24
-    returns-25)
+    returns-25
+    returns-26)

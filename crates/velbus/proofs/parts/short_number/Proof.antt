@@ -12,7 +12,11 @@ returns c = rw (c .match .keys1)
 
 returns-2 : tie.Need-returns-2
 unfolding numberIn
-returns-2 c = sym (passed-over (λ (l : Numbered). l .kind) (λ (l : Numbered). l .what) noMessage shortTypes [] (c .before .args .kind) (c .match .rest))
+returns-2 c = rw (c .match .keys2)
+
+returns-3 : tie.Need-returns-3
+unfolding numberIn
+returns-3 c = sym (passed-over (λ (l : Numbered). l .kind) (λ (l : Numbered). l .what) noMessage shortTypes [] (c .before .args .kind) (c .match .rest))
 
 pub short-number-spec : {M : Type 1} → statement M
-short-number-spec = tie.close (tie.spec returns returns-2)
+short-number-spec = tie.close (tie.spec returns returns-2 returns-3)

@@ -1,11 +1,11 @@
--- `frame::types::vmb1bl` meets its contract.
+-- `frame::types::blind_module` meets its contract.
 -- Assumes nothing.
 use Rattle.laws.proofs.Keys.{passed-over}
-use Rattle.frame.specs.Types.{Entry, noRow, everyType, vmb1blOnly}
+use Rattle.frame.specs.Types.{Entry, noRow, everyType, blindOnly}
 use mathlib.Core.Path.{sym, _∙_}
 use borrow.Author.Needs.{needs}
-use Rattle.frame.proofs.types.vmb1bl.Statement.{statement}
-use Rattle.frame.proofs.types.vmb1bl.Tie as tie
+use Rattle.frame.proofs.types.blind_module.Statement.{statement}
+use Rattle.frame.proofs.types.blind_module.Tie as tie
 
 returns : tie.Need-returns
 returns c = rw (c .match .keys1)
@@ -23,9 +23,9 @@ returns-5 : tie.Need-returns-5
 returns-5 c = rw (c .match .keys5)
 
 returns-6 : tie.Need-returns-6
-returns-6 c = c .every-type .ensures ∙ sym (passed-over (λ (e : Entry). e .command) (λ (e : Entry). e .listed) noRow vmb1blOnly everyType (c .before .before .args .command) (c .before .match .rest))
+returns-6 c = c .every-type .ensures ∙ sym (passed-over (λ (e : Entry). e .command) (λ (e : Entry). e .listed) noRow blindOnly everyType (c .before .before .args .command) (c .before .match .rest))
 
-pub vmb1bl-spec : {M : Type 1} → statement M
-vmb1bl-spec =
+pub blind-module-spec : {M : Type 1} → statement M
+blind-module-spec =
     tie.close
     (tie.spec (λ c κs. search needs) returns returns-2 returns-3 returns-4 returns-5 returns-6)
