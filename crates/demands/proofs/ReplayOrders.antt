@@ -12,7 +12,7 @@ use Rattle.replay.specs.declared.records.Replayed.the-variants as answered
 use Rattle.replay.specs.declared.window.Part.the-variants as part
 use Rattle.replay.specs.Replay.{heardBy, replayed, replayAnswer, replayPicture, withRoom}
 use Rattle.replay.specs.Window.{turnOver, heardStream, heardWindow, partAnswer, partPicture, partWindow}
-use Rattle.replay.specs.Listing.{listingText, listingAnswer, listingBytes}
+use Rattle.texts.specs.Listing.{listingText, listingAnswer, listingBytes}
 use Rattle.demands.specs.Order.{_or_, Verdict, answers, refuses, pictureTest}
 use Rattle.demands.specs.Demand1.{ofPut, ofReplayed, ofPart, Verdicts, Replaying}
 use Rattle.demands.proofs.Orders.{answers-refuses, by-test, by-fault}

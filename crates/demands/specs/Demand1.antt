@@ -32,7 +32,7 @@ use Rattle.replay.specs.declared.window.Part.{Part}
 use Rattle.replay.specs.declared.window.Stream.{Stream}
 use Rattle.replay.specs.Replay.{replayedNumbers, replayAnswer, replayPicture}
 use Rattle.replay.specs.Window.{partNumbers, partAnswer, partPicture, partWindow}
-use Rattle.replay.specs.Listing.{listingText, listingAnswer, listingBytes}
+use Rattle.texts.specs.Listing.{listingText, listingAnswer, listingBytes}
 use Rattle.velbus.specs.Words.{values, refusedWord, outcomeWord, answerWord}
 use Rattle.velbus.specs.Recordings.{putWord}
 use Rattle.velbus.specs.Layout.{messageSize}

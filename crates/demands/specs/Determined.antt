@@ -17,7 +17,7 @@ use Rattle.recording.specs.Write.{putAnswer, putBytes}
 use Rattle.replay.specs.declared.window.Stream.{Stream}
 use Rattle.replay.specs.Replay.{replayAnswer, replayPicture}
 use Rattle.replay.specs.Window.{partAnswer, partPicture, partWindow}
-use Rattle.replay.specs.Listing.{listingAnswer, listingBytes}
+use Rattle.texts.specs.Listing.{listingAnswer, listingBytes}
 use Rattle.velbus.specs.Words.{outcomeWord, answerWord}
 use Rattle.velbus.specs.Recordings.{putWord}
 use Rattle.velbus.specs.Frames.{readWord, readInto, writeWord, writeInto}

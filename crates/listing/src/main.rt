@@ -4,9 +4,9 @@ use libc::STDIN_FILENO;
 use libc::STDOUT_FILENO;
 use places::Outcome;
 use recording::Put;
-use replay::LISTING_ROOM;
 use replay::Part;
 use replay::Stream;
+use texts::LISTING_ROOM;
 
 // The way back's depth on which the classroom program has always relied.
 const DEPTH: u32 = 16;
@@ -67,7 +67,7 @@ fn tell(what: &[u8]) {
 // Lists what was heard, and tells where the listing could not be made, or not written to its end.
 fn put_out(picture: &[u8], stream: Stream) {
     let mut out = [0u8; LISTING_ROOM];
-    let Put::Wrote(n) = replay::put_listing(picture, &mut out, stream) else {
+    let Put::Wrote(n) = texts::put_listing(picture, &mut out, stream) else {
         tell(b"listing: there is no room for the listing\n");
         return;
     };

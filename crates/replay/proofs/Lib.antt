@@ -2,9 +2,5 @@ pub mod Runs
 pub mod Turns
 pub mod Shifts
 pub mod Calls
-pub mod Texts
-pub mod Examples
-pub mod Cells
-pub mod Listings
 pub mod Rooms
 pub mod AllTurns

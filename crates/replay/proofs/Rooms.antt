@@ -1,39 +1,21 @@
--- Laws of the calls that need room: a picture too short, a buffer too short, and room enough.
+-- Laws of the calls that need room: a picture too short, a window too short, and room enough.
 --     replay-refused, replay-heard                             of `hear_all`
 --     part-no-picture, part-no-room, part-heard                of `hear_part`
---     listing-no-picture, listing-no-room, listing-put         of `put_listing`
---     listing-room, listing-whole, listing-at-once, listing-copied    in the room of the longest listing every listing is put whole
---     put-is-inside    what was put lies in the buffer
 --     all-is-replay, call-is-turn
 -- Assumes nothing.
-use mathlib.Core.Path.{_≡_, refl, sym, ap, _∙_}
-use mathlib.Core.List.{List, [], _∷_, _++_}
-use Prim.Native.Nat.{ℕ, _+_, _-_, _*_, _≤_, _<_}
-use native.Mathlib.Nat.{zero-add}
-use native.Mathlib.Omega.{arith}
-use lib.ListN.{length, take, drop}
-use lib.Seq.{sets, sets-eq, take-at}
-use lib.Dec.{ltb, leb}
-use borrow.Author.Tests.{lt-ltb, le-ltb, le-leb, lt-leb, leb-true}
-use Rattle.laws.proofs.Choices.{cond-elim}
+use mathlib.Core.Path.{_≡_, sym}
+use mathlib.Core.List.{List}
+use Prim.Native.Nat.{ℕ, _+_, _-_, _≤_, _<_}
+use lib.ListN.{length}
+use borrow.Author.Tests.{lt-ltb, le-ltb, le-leb, lt-leb}
 use Rattle.laws.specs.Refusals.{tooShort}
-use Rattle.laws.specs.Copies.{copiedIn}
 use Rattle.places.specs.Layout.{size}
-use Rattle.places.specs.Limits.{addresses}
-use Rattle.recording.specs.declared.writes.Put.{Put}
-use Rattle.recording.specs.declared.writes.Put.the-variants as put
 use Rattle.replay.specs.declared.records.Replayed.the-variants as answered
 use Rattle.replay.specs.declared.window.Part.the-variants as part
 use Rattle.replay.specs.declared.window.Stream.{Stream}
 use Rattle.replay.specs.Replay.{heardBy, replayed, replayAnswer, replayPicture}
 use Rattle.replay.specs.Window.{turnOver, heardStream, heardWindow, partAnswer, partPicture, partWindow}
-use Rattle.replay.specs.Text.{Fits, Written}
-use Rattle.replay.specs.Listing.{listingText, listingAnswer, listingBytes}
-use Rattle.replay.specs.TextStatements.{lineRoom, PutIsInside}
 use Rattle.replay.specs.Statements.{AllIsReplay, CallIsTurn}
-use Rattle.numbers.proofs.Reading.{different}
-use Rattle.replay.proofs.Texts.{room-is-enough}
-use Rattle.replay.proofs.Listings.{listing-fits}
 
 module _ (b s : List ℕ) where
   pub replay-refused : length b < size → (answered.Refused tooShort ≡ replayAnswer b s) × (b ≡ replayPicture b s)
@@ -67,64 +49,6 @@ module _ (b w : List ℕ) (st : Stream) (n : ℕ) where
       let e = le-ltb (length b) size h in
       let f = le-leb (st .left + n) (length w) l in
       (rw (e, f), (rw (e, f), rw (e, f)))
-
-module _ (b out : List ℕ) (stream : Stream) where
-  abbrev text : List ℕ
-  text = listingText b stream
-
-  abbrev pub ListingIs : Put → List ℕ → Type 0
-  ListingIs answer after = (answer ≡ listingAnswer b out stream) × (after ≡ listingBytes b out stream)
-
-  pub listing-no-picture : length b < size → ListingIs (put.Refused tooShort) out
-  unfolding listingAnswer listingBytes
-  listing-no-picture h = let e = lt-ltb (length b) size h in (rw e, rw e)
-
-  pub listing-no-room : size ≤ length b → length out < length text → ListingIs (put.Refused tooShort) out
-  unfolding listingAnswer listingBytes
-  listing-no-room h l =
-      let e = le-ltb (length b) size h in
-      let f = lt-leb (length text) (length out) l in
-      (rw (e, f), rw (e, f))
-
-  pub listing-put : size ≤ length b → length text ≤ length out → ListingIs (put.Wrote (length text)) (text ++ drop (length text) out)
-  unfolding listingAnswer listingBytes
-  listing-put h l =
-      let e = le-ltb (length b) size h in
-      let f = le-leb (length text) (length out) l in
-      (rw (e, f), rw (e, f))
-
-  -- in a buffer that holds any listing
-  pub listing-room : lineRoom * (addresses + 3) ≤ length out → Fits out 0 text
-  listing-room h = record { room = omega (arith, listing-fits b stream) }
-
-  module _ (room : lineRoom * (addresses + 3) ≤ length out) (after : List ℕ) (n : ℕ) (w : Written out 0 text after n) where
-    pub listing-whole : (n ≡ length text) × (after ≡ text ++ drop (length text) out)
-    listing-whole =
-        let e = room-is-enough out 0 text after n (omega (arith, listing-fits b stream)) w in
-        (omega (arith, e .0), e .1 ∙ ap (λ (k : ℕ). text ++ drop k out) (zero-add (length text)))
-
-    pub listing-at-once : size ≤ length b → ListingIs (put.Wrote n) after
-    listing-at-once h = let p = listing-put h (omega (arith, listing-fits b stream)) in (ap put.Wrote (listing-whole .0) ∙ p .0, listing-whole .1 ∙ p .1)
-
--- made in such a buffer first, and then copied into one that it fits
-pub listing-copied : (b out room after : List ℕ) (n : ℕ) (stream : Stream) → size ≤ length b → lineRoom * (addresses + 3) ≤ length room
-    → Written room 0 (listingText b stream) after n → n ≤ length out → ListingIs b out stream (put.Wrote n) (copiedIn out 0 (take (n - 0) (drop 0 after)))
-unfolding copiedIn
-listing-copied b out room after n stream h large w fits =
-    let text : List ℕ = listingText b stream in
-    let whole = listing-whole b room stream large after n w in
-    let p = listing-put b out stream h (omega (arith, whole .0)) in
-    let same : take (n - 0) (drop 0 after) ≡ text = (λ i. take (n - 0) (drop 0 (whole .1 i))) ∙ take-at text (drop (length text) room) (n - 0) (omega (arith, whole .0)) in
-    let copied : copiedIn out 0 text ≡ text ++ drop (length text) out = (rw (le-leb (0 + length text) (length out) (omega (arith, whole .0)))) ∙ sets-eq text out 0 (omega (arith, whole .0)) ∙ ap (λ (k : ℕ). text ++ drop k out) (zero-add (length text)) in
-    (ap put.Wrote (whole .0) ∙ p .0, ap (copiedIn out 0) same ∙ copied ∙ p .1)
-
-pub put-is-inside : PutIsInside
-unfolding listingAnswer
-put-is-inside b out stream n =
-    let k : ℕ = length (listingText b stream) in
-    cond-elim (λ (p : Put). p ≡ put.Wrote n → n ≤ length out) (ltb (length b) size) _ _ (λ _ e. absurd (different cc))
-    (λ _. cond-elim (λ (p : Put). p ≡ put.Wrote n → n ≤ length out) (leb k (length out)) _ _
-    (λ fits e. let same : k ≡ n = cc in omega (arith, leb-true k (length out) fits)) (λ _ e. absurd (different cc)))
 
 pub all-is-replay : AllIsReplay
 all-is-replay b s h = let r = replay-heard b s h in (sym (r .0), sym (r .1))

@@ -2,8 +2,3 @@ pub mod Replay
 pub mod Window
 pub mod Parts
 pub mod Statements
-pub mod Text
-pub mod Lines
-pub mod Sheets
-pub mod Listing
-pub mod TextStatements

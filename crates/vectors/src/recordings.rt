@@ -127,7 +127,7 @@ fn list_into(picture: &[u8], room: &mut [u8], n: usize, stream: Stream) -> Fille
     if n > room.len() {
         return filled_by(Put::Refused(NO_CALL), 0);
     }
-    filled_by(replay::put_listing(picture, &mut room[0..n], stream), 0)
+    filled_by(texts::put_listing(picture, &mut room[0..n], stream), 0)
 }
 
 // What a listing is in n bytes.

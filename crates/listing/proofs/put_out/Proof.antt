@@ -5,8 +5,8 @@ use mathlib.Core.List.{List}
 use borrow.Author.Needs.{needs}
 use lib.ListN.{length, replicate}
 use Rattle.places.specs.Limits.{addresses}
-use Rattle.replay.specs.TextStatements.{lineRoom}
-use Rattle.replay.proofs.Rooms.{put-is-inside}
+use Rattle.texts.specs.TextStatements.{lineRoom}
+use Rattle.texts.proofs.Rooms.{put-is-inside}
 use Rattle.listing.proofs.put_out.Statement.{statement}
 use Rattle.listing.proofs.put_out.Tie as tie
 

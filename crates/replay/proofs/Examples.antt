@@ -1,9 +1,0 @@
--- The paper's listings are the lines that the definitions give. Assumes nothing.
-use mathlib.Core.Path.{refl}
-use Rattle.replay.specs.Text.{decimal}
-use Rattle.replay.specs.Lines.{moduleLine}
-use Rattle.replay.specs.TextStatements.{ListingsRight}
-
-pub listings-right : ListingsRight
-unfolding decimal moduleLine
-listings-right = (refl, refl, refl)

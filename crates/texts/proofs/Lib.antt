@@ -1,0 +1,5 @@
+pub mod Texts
+pub mod Examples
+pub mod Cells
+pub mod Listings
+pub mod Rooms
