@@ -22,7 +22,7 @@
 extern "C" {
 #endif
 
-#define VELBUS_VERSION "4.1.0"    /* velbus.pc takes it from here */
+#define VELBUS_VERSION "4.2.0"    /* velbus.pc takes it from here */
 
 /* ---- refusal numbers ---- */
 #define VELBUS_BAD_IDENTIFIER 1   /* identifier above 2047 */
@@ -64,6 +64,7 @@ enum { VELBUS_BLIND_OFF = 0, VELBUS_BLIND_UP = 1, VELBUS_BLIND_DOWN = 2 };
 #define VELBUS_NAME_SIZE 32       /* bytes that velbus_name fills, two for each character */
 #define VELBUS_LISTED_SIZE 256    /* bytes that velbus_listed fills, one for each address */
 #define VELBUS_ROW_SIZE 512       /* the most bytes that velbus_memory_row fills, for the type with the most cells */
+#define VELBUS_PLAN_SIZE 128      /* the most bytes that velbus_plan fills: two for each block of four cells */
 
 /* A message as it lies in its 20 bytes; numbers of more than one byte are low byte first. A field that a message does
  * not have is 0. */
@@ -177,6 +178,15 @@ uint32_t velbus_name(const uint8_t *picture, size_t picture_len, uint32_t addres
 /* Every cell of a module, two bytes each, low byte first: 0 to 255, or VELBUS_UNKNOWN. VELBUS_ROW_SIZE bytes are enough for any type.
  * Refuses 5, 13. */
 uint32_t velbus_memory_row(const uint8_t *picture, size_t picture_len, uint32_t address, uint8_t *out, size_t out_len);
+
+/* The plan of reads: the fewest block reads (C9) that together read every cell of a module that is not heard, by their starts, two bytes each, low byte
+ * first, rising. Value: how many they are, 0 where every cell is told; bytes beyond them keep theirs. VELBUS_PLAN_SIZE bytes are enough for any type.
+ * Refuses 5, 13. */
+uint32_t velbus_plan(const uint8_t *picture, size_t picture_len, uint32_t address, uint8_t *out, size_t out_len);
+
+/* A proposed plan, from any program and in any order, its starts as velbus_plan gives them. Value: 1 exactly if every start is allowed for the module's
+ * type, no cell that is not heard is missed, and no shorter list would do; else 0. An odd last byte is no start, so that such bytes are 0. Refuses 5. */
+uint32_t velbus_right_plan(const uint8_t *picture, size_t picture_len, uint32_t address, const uint8_t *starts, size_t starts_len);
 
 /* ---- recordings ---- */
 

@@ -8,7 +8,8 @@
  *     back   the frame is heard, and a step back taken
  *     cell   a cell of the frame's address is asked
  *     row    the memory row of the frame's address is asked
- *     check  as hear; then every memory row is asked, and asked again after each step back that is granted
+ *     plan   the plan of reads for the frame's address is asked
+ *     check  as hear; then every memory row and every plan is asked, and asked again after each step back that is granted
  * Prints a sum over every answer: both sides must print the same. */
 #include "side.h"
 
@@ -86,6 +87,8 @@ static int make_turns(const char *mode, size_t turns)
         TURNS(CELL(address_of(x), x->data[2]))
     else if (strcmp(mode, "row") == 0)
         TURNS(MEMORY_ROW(address_of(x), row, sizeof row))
+    else if (strcmp(mode, "plan") == 0)
+        TURNS(PLAN(address_of(x), row, sizeof row))
     else
         return 0;
     return 1;
@@ -100,6 +103,9 @@ static void add_picture(void)
             add(MEMORY_ROW(address, row, sizeof row));
             for (size_t i = 0; i < sizeof row; i++)
                 add(row[i]);
+            add(PLAN(address, row, sizeof row));
+            for (size_t i = 0; i < sizeof row; i++)
+                add(row[i]);
         }
     while (STEP_BACK() == 0);
 }
@@ -107,7 +113,7 @@ static void add_picture(void)
 int main(int count, char **words)
 {
     if (count != 4) {
-        fprintf(stderr, "usage: calls none|hear|back|cell|row|check N RECORDING\n");
+        fprintf(stderr, "usage: calls none|hear|back|cell|row|plan|check N RECORDING\n");
         return 1;
     }
     read_frames(words[3]);

@@ -2,8 +2,8 @@
 """Writes the recordings of the measurement: the same bytes at every run.
 
 Each NAME.small.rec and NAME.large.rec are the beginning and the whole of one recording, so that what a record costs is told by how the
-cost grows; NAME.long.rec, for wall times, is the same at length. The others are only compared: damaged-*.rec, and sweep.rec, which goes
-through commands, lengths, priorities and fields.
+cost grows; NAME.long.rec, for wall times, is the same at length. unheard, half and told.small.rec leave one module whose memory is known so far, for
+the plan of reads. The others are only compared: damaged-*.rec, and sweep.rec, which goes through commands, lengths, priorities and fields.
 
 usage: make_inputs.py FOLDER
 """
@@ -41,6 +41,12 @@ def dump():
         for start in range(0, 256 if kind == IR else 128, 4):
             out.append(record(address, [0xCC, 0, start] + [(start * 7 + i) & 0xFF for i in range(4)], gap=25))
     return b"".join(out)
+
+
+def memory(starts):
+    """One module of 256 cells, which names itself many times; then the blocks at these starts are told."""
+    address, kind = MODULES[0]
+    return entry(address, kind) * 64 + b"".join(record(address, [0xCC, 0, start, 255, 0, 1, 2], gap=25) for start in starts)
 
 
 def likely_data(rng, command, kind=BL):
@@ -139,6 +145,8 @@ def main():
         (folder / f"classroom.{size}.rec").write_bytes(classroom * (4 * n))
         (folder / f"dump.{size}.rec").write_bytes(whole_dump * n)
         (folder / f"random.{size}.rec").write_bytes(entries + b"".join(parts[i % LARGE] for i in range(n)))
+    for name, starts in (("unheard", ()), ("half", range(0, 256, 8)), ("told", range(0, 256, 4))):
+        (folder / f"{name}.small.rec").write_bytes(memory(starts))
     (folder / "empty.rec").write_bytes(b"")
     (folder / "sweep.rec").write_bytes(sweep(rng))
     for i in range(200):

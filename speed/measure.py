@@ -20,6 +20,7 @@ FOLDER, RUN = pathlib.Path(sys.argv[1]), sys.argv[2:]
 LISTINGS = [str(FOLDER.parent / "bin" / "listing"), str(FOLDER / "plain_listing")]
 CALLS = [str(FOLDER / "calls"), str(FOLDER / "plain_calls")]
 NAMES = ("classroom", "dump", "random")
+MEMORIES = ("unheard", "half", "told")
 EMULATOR = ["qemu-x86_64"] + RUN[1:]
 TURNS = 3000  # calls of a comparison
 TIMES = 9  # runs of each side for a wall time
@@ -41,8 +42,9 @@ def compare_all():
     for recording in recordings:
         compare(recording.name, [[program] for program in LISTINGS], recording)
     calls = [(name, mode) for name in NAMES for mode in ("hear", "back", "cell", "row", "check")] + [("sweep", "check")]
+    calls += [(name, "plan") for name in NAMES + MEMORIES]
     for name, mode in calls:
-        recording = recording_of(name, "large") if name in NAMES else FOLDER / f"{name}.rec"
+        recording = recording_of(name, "large" if name in NAMES else "small") if name != "sweep" else FOLDER / "sweep.rec"
         compare(f"{mode} {name}", [[program, mode, str(TURNS), str(recording)] for program in CALLS])
     print(f"{len(recordings)} listings and {len(calls)} rows of calls are the same on both sides\n")
 
@@ -101,7 +103,7 @@ def print_instructions():
     print(f"{'instructions':<34}{'ours':>12}{'plain C':>12}{'ratio':>9}")
     for name in NAMES:
         row(f"listing, per record: {name}", *(per_record(program, name) for program in LISTINGS), 1)
-    for mode, name in [("hear", name) for name in NAMES] + [("back", "dump"), ("cell", "dump"), ("row", "dump")]:
+    for mode, name in [("hear", name) for name in NAMES] + [("back", "dump"), ("cell", "dump"), ("row", "dump")] + [("plan", name) for name in MEMORIES]:
         row(f"library, per call: {mode} {name}", *(per_call(program, mode, name) for program in CALLS), 1)
 
 

@@ -380,6 +380,28 @@ uint32_t plain_memory_row(const struct plain_picture *p, uint32_t address, uint8
     return 0;
 }
 
+/* Every fourth cell at most starts a read, so that the starts are made in room of their own and copied where they fit. */
+uint32_t plain_plan(const struct plain_picture *p, uint32_t address, uint8_t *out, size_t out_len)
+{
+    const struct plain_module *m = module_at(p, address);
+    if (m->kind == PLAIN_NO_MODULE)
+        return refuse(TYPE_NOT_KNOWN);
+    uint16_t starts[PLAIN_CELLS / PLAIN_BLOCK];
+    size_t cells = cells_of[m->kind], last = cells - PLAIN_BLOCK, count = 0;
+    for (size_t cell = 0; cell < cells;) {
+        if (m->cell[cell] != PLAIN_UNKNOWN) {
+            cell++;
+            continue;
+        }
+        starts[count++] = (uint16_t)(cell < last ? cell : last);
+        cell += PLAIN_BLOCK;
+    }
+    if (out_len / sizeof starts[0] < count)
+        return refuse(TOO_SHORT);
+    memcpy(out, starts, count * sizeof starts[0]);
+    return (uint32_t)count;
+}
+
 unsigned plain_told_cells(const struct plain_module *m)
 {
     unsigned told = 0;

@@ -1,6 +1,6 @@
 /* The same library as include/velbus.h, as a good engineer would write it in C without proofs: what the proved one is measured against.
  *
- * The four calls that a gateway makes most. Each answers the result word of velbus.h: the value, or the refusal with its byte. */
+ * The calls that a gateway makes most, and the plan of reads. Each answers the result word of velbus.h: the value, or the refusal with its byte. */
 #ifndef PLAIN_H
 #define PLAIN_H
 
@@ -8,7 +8,7 @@
 #include <stdint.h>
 
 enum { PLAIN_MODULES = 16, PLAIN_DEPTH = 64, PLAIN_CELLS = 256, PLAIN_NAMES = 8, PLAIN_NAME_SIZE = 16 };
-enum { PLAIN_UNKNOWN = 256 };
+enum { PLAIN_UNKNOWN = 256, PLAIN_BLOCK = 4 };
 enum { PLAIN_RUN = 16 }; /* the most bytes that one frame changes, but for an entry */
 
 /* The kinds of module, numbered for the tables. */
@@ -50,6 +50,7 @@ uint32_t plain_hear(struct plain_picture *p, uint32_t identifier, uint32_t remot
 uint32_t plain_step_back(struct plain_picture *p);
 uint32_t plain_cell(const struct plain_picture *p, uint32_t address, uint32_t location);
 uint32_t plain_memory_row(const struct plain_picture *p, uint32_t address, uint8_t *out, size_t out_len);
+uint32_t plain_plan(const struct plain_picture *p, uint32_t address, uint8_t *out, size_t out_len);
 
 /* For the listing: how many names are whole, and how many cells are told. */
 unsigned plain_whole_names(struct plain_module *m);

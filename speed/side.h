@@ -13,6 +13,7 @@ static struct plain_picture picture;
 #define STEP_BACK() plain_step_back(&picture)
 #define CELL(address, location) plain_cell(&picture, address, location)
 #define MEMORY_ROW(address, out, room) plain_memory_row(&picture, address, out, room)
+#define PLAN(address, out, room) plain_plan(&picture, address, out, room)
 
 #else
 
@@ -25,6 +26,7 @@ static uint8_t picture[VELBUS_PICTURE_SIZE];
 #define STEP_BACK() velbus_step_back(picture, sizeof picture)
 #define CELL(address, location) velbus_cell(picture, sizeof picture, address, location)
 #define MEMORY_ROW(address, out, room) velbus_memory_row(picture, sizeof picture, address, out, room)
+#define PLAN(address, out, room) velbus_plan(picture, sizeof picture, address, out, room)
 
 #endif
 #endif

@@ -28,7 +28,7 @@ static unsigned first(unsigned a, unsigned b) { return a ? a : b; }
 
 static unsigned too_short(size_t length, size_t need) { return length < need ? VELBUS_TOO_SHORT : 0; }
 
-static void set_out(size_t length)
+void set_out(size_t length)
 {
     set_length(&out, length);
     memcpy(held, out.start, length);
@@ -40,8 +40,7 @@ static void same_held(const char *what)
     same(what, (unsigned)marks_stand(&out), 1);
 }
 
-/* the filled buffer: what was to be laid there lies there, and all else is as it was */
-static void same_out(const char *what, unsigned refusal, const uint8_t *laid, size_t n)
+void same_out(const char *what, unsigned refusal, const uint8_t *laid, size_t n)
 {
     if (!refusal)
         memcpy(held, laid, n);

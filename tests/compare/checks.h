@@ -21,6 +21,10 @@ void check_write(uint32_t type, const uint8_t message[20], size_t given, size_t 
 
 void check_record(size_t length, size_t at, uint64_t gap, const struct ref_frame *f);
 
+/* the buffer lent with a length, to be compared after the call: what was to be laid there lies there, unless it is refused, and all else is as it was */
+void set_out(size_t length);
+void same_out(const char *what, unsigned refusal, const uint8_t *laid, size_t n);
+
 /* ---- events on both pictures ---- */
 
 /* naming no depth; and one, which may be refused and then changes nothing */
@@ -39,5 +43,12 @@ void check_led(uint32_t address, uint32_t led);
 void check_blind(uint32_t address, uint32_t blind);
 void check_name(uint32_t address, uint32_t name, size_t length);
 void check_row(uint32_t address, size_t length);
+void check_plan(uint32_t address, size_t length);
+
+/* a proposed plan of so many starts, and maybe an odd byte after them */
+void check_right_plan(uint32_t address, const unsigned *starts, size_t count, unsigned odd);
+
+/* the plan, changed now and then: in another order, a start moved, one more or one fewer, one twice, an odd byte */
+void check_proposed(uint32_t address);
 
 #endif

@@ -20,6 +20,8 @@ static void ask_module(uint32_t address)
     check_name(address, draw(10), some_length(VELBUS_NAME_SIZE));
     if (draw(4) == 0)
         check_row(address, some_length(512));
+    check_plan(address, draw(3) ? some_length(VELBUS_PLAN_SIZE) : draw(VELBUS_PLAN_SIZE));
+    check_proposed(address);
 }
 
 static void ask_everything(void)

@@ -29,6 +29,7 @@ static void lent(size_t n)
     check_name(ADDRESS, 1, n);
     check_listed(n);
     check_row(ADDRESS, n);
+    check_plan(ADDRESS, n);
     check_read(VELBUS_NO_TYPE, &request, n);
     check_write(VELBUS_NO_TYPE, message, sizeof message, n);
     if (n <= sizeof message)
@@ -55,6 +56,8 @@ static void picture_of(size_t n)
     same("blind by length", velbus_blind(p, n, ADDRESS, 1), asked);
     same("name by length", velbus_name(p, n, ADDRESS, 1, out.start, out.length), asked);
     same("memory row by length", velbus_memory_row(p, n, ADDRESS, out.start, out.length), asked);
+    same("plan by length", velbus_plan(p, n, ADDRESS, out.start, out.length), asked);
+    same("right plan by length", velbus_right_plan(p, n, ADDRESS, out.start, 0), asked);
     same("step back by length", velbus_step_back(picture.start, n), back);
     same("fresh with too great a depth by length", velbus_fresh_depth(picture.start, n, REF_DEPTH + 1), word ? word : refused(VELBUS_NO_SUCH_PLACE));
     same_bytes("picture by length", picture.start, zeros, n);

@@ -29,6 +29,8 @@ static void questions(uint32_t address)
     velbus_name(p, n, address, draw(10), out.start, out.length);
     velbus_memory_row(p, n, address, out.start, out.length);
     velbus_listed(p, n, out.start, out.length);
+    velbus_plan(p, n, address, out.start, out.length);
+    velbus_right_plan(p, n, address, out.start, draw((uint32_t)out.length + 1));
 }
 
 void strange_pictures(unsigned long turns)

@@ -76,6 +76,17 @@ unsigned ref_names(unsigned type);
 unsigned ref_leds(unsigned type);
 unsigned ref_blinds(unsigned type);
 
+/* ---- the plan of reads ---- */
+
+/* the starts of the plan that the request's words give, and how many they are */
+unsigned ref_plan(const struct ref_module *m, unsigned starts[64]);
+
+/* the least number of block reads that read every unknown cell, found over all of them */
+unsigned ref_least_reads(const struct ref_module *m);
+
+/* 1 where the starts are a right plan, else 0 */
+unsigned ref_right_plan(const struct ref_module *m, const unsigned *starts, size_t count);
+
 /* ---- recordings ---- */
 
 /* the refusal number; a record that is put is laid into buffer at `at`, and put is its length */

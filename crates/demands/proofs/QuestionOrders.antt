@@ -12,10 +12,15 @@ use Rattle.places.specs.Limits.{room, addresses}
 use Rattle.places.specs.Places.{places, nameLength, yearPlace, weekPlace, cellAsked, ledAsked, blindAsked, hasName, nameRow, cellRow}
 use Rattle.places.specs.Layout.{placeAt}
 use Rattle.places.specs.Head.{short, kindIn}
-use Rattle.questions.specs.Question.{Question, type-of, build-year, build-week, cell, led, blind, name-row, name-bytes, memory-row, memory-bytes, answering}
+use Rattle.questions.specs.Question.{Question, type-of, build-year, build-week, cell, led, blind, name-row, name-bytes, memory-row, memory-bytes, Reply, answering, value}
 use Rattle.questions.specs.Fills.{filledTo, filling, valueAt, rowNumber, lowFirst, numbersFill, bytesFill, heardIn}
 use Rattle.questions.specs.Replies.{slotAsked, answerAt, placeReply, replyAs, replyIn, reply, keptAnswer, listedIf, listing}
-use Rattle.demands.specs.Order.{answers, verdict, pictureTest, rowTest, listedOrder, placeTest, questionTests, questionOrder}
+use Rattle.questions.specs.Statements.{inBytes}
+use Rattle.questions.proofs.RowBytes.{length-bytes}
+use Rattle.plan.specs.Plan.{planOf, leastReads}
+use Rattle.plan.specs.Judging.{rightPlan}
+use Rattle.plan.specs.Replies.{memoryIn, atModule, asEntries, laid, planReply, planBytesReply, yesNo, rightInBytes}
+use Rattle.demands.specs.Order.{Test, _or_, answers, verdict, pictureTest, rowTest, listedOrder, placeTest, questionTests, questionOrder, rightOrder, planOrder}
 use Rattle.demands.specs.Demand1.{ofAnswer, Replied, Questions}
 use Rattle.demands.proofs.Orders.{answers-refuses, reply-test, reply-fault, reply-done, answer-fault}
 
@@ -69,5 +74,36 @@ each-order b a q out =
     let s = slotAsked b a in
     reply-fault out tooShort _ _ (short b) (reply-test out typeNotKnown _ _ (ltb s room) (asked-order b s (kindIn b s) out q))
 
+-- ---- the plan
+module _ (b : List ℕ) (a : ℕ) (out : List ℕ) where
+  at-module : (ts : List Test) (says : ℕ → Reply) → Replied ts out (says (slotAsked b a))
+      → Replied (pictureTest b ∷ ltb (slotAsked b a) room or typeNotKnown ∷ ts) out (atModule b a says out)
+  unfolding atModule
+  at-module ts says d = reply-fault out tooShort _ _ (short b) (reply-test out typeNotKnown _ _ (ltb (slotAsked b a) room) d)
+
+  laid-order : (lay : List ℕ → List ℕ) (row : List ℕ) (n : ℕ) → length (lay (planOf row)) ≡ n → Replied (rowTest n out ∷ []) out (laid lay row out)
+  unfolding laid
+  laid-order lay row n e = rw (← e) (reply-test out tooShort [] _ (leb (length (lay (planOf row))) (length out)) (reply-done out (leastReads row) _))
+
+plan-order : (b : List ℕ) (a : ℕ) (out : List ℕ) → Replied (planOrder b a (leastReads (memoryIn b (slotAsked b a))) out) out (planReply b a out)
+unfolding leastReads
+plan-order b a out = at-module b a out _ _ (laid-order b a out asEntries (memoryIn b (slotAsked b a)) _ refl)
+
+plan-bytes-order : (b : List ℕ) (a : ℕ) (out : List ℕ) → Replied (planOrder b a (2 * leastReads (memoryIn b (slotAsked b a))) out) out (planBytesReply b a out)
+unfolding leastReads
+plan-bytes-order b a out = at-module b a out _ _ (laid-order b a out inBytes (memoryIn b (slotAsked b a)) _ (length-bytes (planOf (memoryIn b (slotAsked b a)))))
+
+right-order : (b : List ℕ) (a : ℕ) (starts : List ℕ) (says : ℕ → ℕ) → ofAnswer (atModule b a (λ s. value (says s) starts) starts .answer) ≡ verdict (rightOrder b a)
+right-order b a starts says = at-module b a starts [] _ (reply-done starts (says (slotAsked b a)) starts) .decides
+
 pub questions : Questions
-questions = record { kept = kept-order; listed = listed-order; each = each-order }
+questions =
+    record {
+      kept = kept-order;
+      listed = listed-order;
+      each = each-order;
+      plan = plan-order;
+      plan-bytes = plan-bytes-order;
+      right-plan = λ b a starts. right-order b a starts (λ s. yesNo (rightPlan (memoryIn b s) starts));
+      right-plan-bytes = λ b a bytes. right-order b a bytes (λ s. yesNo (rightInBytes (memoryIn b s) bytes));
+    }

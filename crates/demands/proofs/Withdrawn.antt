@@ -26,7 +26,7 @@ use Rattle.velbus.specs.declared.parts.Held.the-variants.{Holds, Nothing}
 use Rattle.velbus.specs.Words.{values}
 use Rattle.velbus.specs.Layout.{messageSize, heldIn}
 use Rattle.velbus.specs.Frames.{frameSize}
-use Rattle.demands.specs.Order.{Test, _or_, Verdict, answers, refuses, verdict, frameOrder, readerOrder, messageTests, writerOrder, pictureTest, freshOrder, roomTest, kindHeard, hearingOrder, backOrder, listedOrder, questionTests, questionOrder, putOrder, replayOrder, partOrder, listingOrder, readOrder, heldTests, writeOrder}
+use Rattle.demands.specs.Order.{Test, _or_, Verdict, answers, refuses, verdict, frameOrder, readerOrder, messageTests, writerOrder, pictureTest, freshOrder, roomTest, kindHeard, hearingOrder, backOrder, listedOrder, questionTests, questionOrder, rightOrder, planOrder, putOrder, replayOrder, partOrder, listingOrder, readOrder, heldTests, writeOrder}
 use Rattle.demands.specs.Demand1.{wordOf}
 use Rattle.demands.specs.Withdrawn.{Never, Withdrawn}
 use Rattle.demands.proofs.Orders.{answers-refuses}
@@ -109,6 +109,8 @@ withdrawn =
       step-back = λ b. never (backOrder b) refl;
       listed = λ b out. never (listedOrder b out) refl;
       each = λ b a q out. never (questionOrder b a q out) (questions b (slotAsked b a) (kindIn b (slotAsked b a)) q out);
+      plan = λ b a n out. never (planOrder b a n out) refl;
+      right-plan = λ b a. never (rightOrder b a) refl;
       put-record = λ b at gap identifier remote ds. never (putOrder b at gap identifier remote ds) refl;
       fault = λ s at refusal offset e. fault-number (length s) at refusal offset (faults-are-placed s at refusal offset e);
       hear-all = λ b. never (replayOrder b) refl;

@@ -1,7 +1,7 @@
 -- Demand 1: any identifier, remote flag, data, recording or question is given an answer or the one refusal number that the rules give; a refused
 -- call alters nothing that was handed over. The proofs are proofs/FrameOrders.antt, PictureOrders.antt, QuestionOrders.antt, CallOrders.antt,
 -- ReplayOrders.antt and, of the whole, Demand1.antt.
-use Prim.Native.Nat.{ℕ, _/_, _%_, _<_}
+use Prim.Native.Nat.{ℕ, _*_, _/_, _%_, _<_}
 use mathlib.Core.Path.{_≡_}
 use mathlib.Core.Logic.{_≢_}
 use mathlib.Core.List.{List, [], _∷_}
@@ -23,7 +23,9 @@ use Rattle.picture.specs.Hearing.{hearing}
 use Rattle.picture.specs.Stepping.{steppingBack}
 use Rattle.steering.specs.Fresh.{fresheningWith, freshening}
 use Rattle.questions.specs.Question.{Question, Reply}
-use Rattle.questions.specs.Replies.{keptAnswer, listing, reply}
+use Rattle.questions.specs.Replies.{slotAsked, keptAnswer, listing, reply}
+use Rattle.plan.specs.Plan.{leastReads}
+use Rattle.plan.specs.Replies.{memoryIn, planReply, planBytesReply, rightAnswer, rightBytesAnswer}
 use Rattle.recording.specs.declared.writes.Put.{Put}
 use Rattle.recording.specs.Write.{recordBytes, putNumbers, putAnswer, putBytes}
 use Rattle.recording.specs.Statements.{RecordsAreWhole, FaultsArePlaced, FaultIsCertain, CutCanBeMended, MendableIsCut, WindowSettles, OldRecordingsRead}
@@ -37,7 +39,7 @@ use Rattle.velbus.specs.Words.{values, refusedWord, outcomeWord, answerWord}
 use Rattle.velbus.specs.Recordings.{putWord}
 use Rattle.velbus.specs.Layout.{messageSize}
 use Rattle.velbus.specs.Frames.{frameSize, readWord, readInto, writeWord, writeInto}
-use Rattle.demands.specs.Order.{Test, Verdict, answers, refuses, verdict, readerOrder, writerOrder, pictureTest, freshOrder, hearingOrder, backOrder, listedOrder, questionOrder, putOrder, replayOrder, partOrder, listingOrder, readOrder, writeOrder}
+use Rattle.demands.specs.Order.{Test, Verdict, answers, refuses, verdict, readerOrder, writerOrder, pictureTest, freshOrder, hearingOrder, backOrder, listedOrder, questionOrder, rightOrder, planOrder, putOrder, replayOrder, partOrder, listingOrder, readOrder, writeOrder}
 
 -- ---- what each kind of answer comes to, by its numbers
 abbrev pub verdictOf : numbers.Numbers → Verdict
@@ -113,6 +115,11 @@ pub record Questions : Type 0 where
   pub kept : (b : List ℕ) → ofAnswer (keptAnswer b) ≡ verdict (pictureTest b ∷ [])
   pub listed : (b out : List ℕ) → Replied (listedOrder b out) out (listing b out)
   pub each : (b : List ℕ) (a : ℕ) (q : Question) (out : List ℕ) → Replied (questionOrder b a q out) out (reply b a q out)
+  -- the plan of reads, which needs an entry, or two bytes, for each read; and a proposed one, which is handed over and never altered
+  pub plan : (b : List ℕ) (a : ℕ) (out : List ℕ) → Replied (planOrder b a (leastReads (memoryIn b (slotAsked b a))) out) out (planReply b a out)
+  pub plan-bytes : (b : List ℕ) (a : ℕ) (out : List ℕ) → Replied (planOrder b a (2 * leastReads (memoryIn b (slotAsked b a))) out) out (planBytesReply b a out)
+  pub right-plan : (b : List ℕ) (a : ℕ) (starts : List ℕ) → ofAnswer (rightAnswer b a starts) ≡ verdict (rightOrder b a)
+  pub right-plan-bytes : (b : List ℕ) (a : ℕ) (bytes : List ℕ) → ofAnswer (rightBytesAnswer b a bytes) ≡ verdict (rightOrder b a)
 
 -- recordings: a record put; and one read, where the first fault decides: 15 at the input's end, exactly where more bytes could mend it, or 16 at
 -- the byte from which it is certain, whatever follows

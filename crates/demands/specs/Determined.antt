@@ -12,6 +12,7 @@ use Rattle.picture.specs.Stepping.{steppingBack}
 use Rattle.steering.specs.Fresh.{fresheningWith, freshening}
 use Rattle.questions.specs.Question.{Question, Reply}
 use Rattle.questions.specs.Replies.{listing, reply}
+use Rattle.plan.specs.Replies.{planReply, planBytesReply}
 use Rattle.numbers.specs.Write.{putGroups, putInto}
 use Rattle.recording.specs.Write.{putAnswer, putBytes}
 use Rattle.replay.specs.declared.window.Stream.{Stream}
@@ -44,6 +45,9 @@ pub record Determined : Type 1 where
   -- listed, and every question on an address: name, name_bytes, memory_row, memory_bytes
   pub listed : (b out : List ℕ) → OneReply (listing b out)
   pub each : (b : List ℕ) (a : ℕ) (q : Question) (out : List ℕ) → OneReply (reply b a q out)
+  -- plan, plan_bytes
+  pub plan : (b : List ℕ) (a : ℕ) (out : List ℕ) → OneReply (planReply b a out)
+  pub plan-bytes : (b : List ℕ) (a : ℕ) (out : List ℕ) → OneReply (planBytesReply b a out)
   -- put_record, hear_all, hear_part, put_listing
   pub put-record : (b : List ℕ) (at gap identifier remote : ℕ) (ds : List ℕ)
       → OneResult (putAnswer b at gap identifier remote ds) (putBytes b at gap identifier remote ds)

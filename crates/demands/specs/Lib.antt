@@ -5,4 +5,5 @@ pub mod Withdrawn
 pub mod Determined
 pub mod Demand2
 pub mod Demand3
+pub mod Plan
 pub mod Edges

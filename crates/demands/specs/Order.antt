@@ -177,6 +177,13 @@ abbrev pub questionOrder : List ℕ → ℕ → Question → List ℕ → List T
 questionOrder b a q out =
     pictureTest b ∷ ltb (slotAsked b a) room or typeNotKnown ∷ questionTests b (slotAsked b a) (kindIn b (slotAsked b a)) q out
 
+-- ---- the plan of reads, of a module and into a list of so many entries: 5, 13; a proposed plan: 5
+abbrev pub rightOrder : List ℕ → ℕ → List Test
+rightOrder b a = pictureTest b ∷ ltb (slotAsked b a) room or typeNotKnown ∷ []
+
+abbrev pub planOrder : List ℕ → ℕ → ℕ → List ℕ → List Test
+planOrder b a n out = pictureTest b ∷ ltb (slotAsked b a) room or typeNotKnown ∷ rowTest n out ∷ []
+
 -- ---- recordings
 -- a record put at a place: 16, then 13
 abbrev pub putOrder : List ℕ → ℕ → ℕ → ℕ → ℕ → List ℕ → List Test

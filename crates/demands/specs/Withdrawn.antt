@@ -10,7 +10,7 @@ use Rattle.questions.specs.Question.{Question}
 use Rattle.recording.specs.declared.records.Entry.the-variants.{Broken}
 use Rattle.recording.specs.Record.{readRecord}
 use Rattle.velbus.specs.Words.{values}
-use Rattle.demands.specs.Order.{Test, Verdict, refuses, verdict, readerOrder, writerOrder, pictureTest, freshOrder, hearingOrder, backOrder, listedOrder, questionOrder, putOrder, replayOrder, partOrder, listingOrder, readOrder, writeOrder}
+use Rattle.demands.specs.Order.{Test, Verdict, refuses, verdict, readerOrder, writerOrder, pictureTest, freshOrder, hearingOrder, backOrder, listedOrder, questionOrder, rightOrder, planOrder, putOrder, replayOrder, partOrder, listingOrder, readOrder, writeOrder}
 use Rattle.demands.specs.Demand1.{wordOf}
 
 -- a call that makes these tests does not give it
@@ -29,6 +29,9 @@ pub record Withdrawn : Type 0 where
   -- questions
   pub listed : (b out : List ℕ) → Never (listedOrder b out)
   pub each : (b : List ℕ) (a : ℕ) (q : Question) (out : List ℕ) → Never (questionOrder b a q out)
+  -- the plan of reads, and a proposed one
+  pub plan : (b : List ℕ) (a n : ℕ) (out : List ℕ) → Never (planOrder b a n out)
+  pub right-plan : (b : List ℕ) (a : ℕ) → Never (rightOrder b a)
   -- recordings, their faults, and the listing
   pub put-record : (b : List ℕ) (at gap identifier remote : ℕ) (ds : List ℕ) → Never (putOrder b at gap identifier remote ds)
   pub fault : (s : List ℕ) (at refusal offset : ℕ) → readRecord s at ≡ Broken refusal offset → refusal ≢ notWhole

@@ -27,7 +27,7 @@ module _ (f : ℕ → ℕ) where
   unfolding filledTo
   filled-more out n p e q = rw (add-one, ← p, ← e) q
 
-  length-filled : (out : List ℕ) (n : ℕ) → length (filledTo f out n) ≡ length out
+  pub length-filled : (out : List ℕ) (n : ℕ) → length (filledTo f out n) ≡ length out
   unfolding filledTo
   length-filled out zero = refl
   length-filled out (suc n) = length-set (filledTo f out n) n (f n) ∙ length-filled out n

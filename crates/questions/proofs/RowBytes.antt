@@ -19,7 +19,7 @@ use Rattle.questions.specs.Statements.{inBytes, replyInBytes, SameInByte
 twice : (n : ℕ) → 2 * suc n ≡ suc (suc (2 * n))
 twice n = omega arith
 
-length-bytes : (row : List ℕ) → length (inBytes row) ≡ 2 * length row
+pub length-bytes : (row : List ℕ) → length (inBytes row) ≡ 2 * length row
 unfolding inBytes
 length-bytes [] = refl
 length-bytes (n ∷ row) = omega (arith, length-bytes row)
@@ -49,7 +49,7 @@ filled-bytes f row zero = refl
 filled-bytes f row (suc n) = rw (twice n, filled-bytes f row n, low-byte f n, high-byte f n) (set-bytes (filledTo f row n) n (f n))
 
 -- there is room for the bytes exactly where there is for the numbers
-room-bytes : (n : ℕ) (row : List ℕ) → leb (2 * n) (length (inBytes row)) ≡ leb n (length row)
+pub room-bytes : (n : ℕ) (row : List ℕ) → leb (2 * n) (length (inBytes row)) ≡ leb n (length row)
 room-bytes n row = rw (length-bytes row) (go (leb n (length row)) refl)
   where
     go : (t : Bool) → leb n (length row) ≡ t → leb (2 * n) (2 * length row) ≡ t

@@ -18,7 +18,7 @@ pub struct AddressAsked(pub u32);
 pub struct LocationAsked(pub u32);
 
 // An address above 255 has no slot.
-pub(crate) fn slot_asked(picture: &[u8], address: AddressAsked) -> u8
+pub fn slot_asked(picture: &[u8], address: AddressAsked) -> u8
     ensures { λ r. ⌜ r ≡ slotAsked (now (picture .entry)) (address .0) ⌝ }
 {
     let number = address.0;

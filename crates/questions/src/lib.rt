@@ -7,8 +7,11 @@ mod values;
 
 pub use asking::AddressAsked;
 pub use asking::LocationAsked;
+pub use asking::slot_asked;
 pub use names::name;
 pub use names::name_bytes;
+pub use rows::cells_in;
+pub use rows::first_cell;
 pub use rows::listed;
 pub use rows::memory_bytes;
 pub use rows::memory_row;

@@ -78,14 +78,14 @@ pub(crate) fn fill_numbers(picture: &[u8], at: usize, n: usize, out: &mut [u16])
 }
 
 // How many cells the module in a slot has, and where the first of them lies.
-fn cells_in(picture: &[u8], slot: u8) -> usize
+pub fn cells_in(picture: &[u8], slot: u8) -> usize
     ensures { λ r. ⌜ r ≡ cellRow (kindIn (now (picture .entry)) slot) .count ⌝ }
 {
     let e = extent_of(wide32(kind_in(picture, slot)));
     e.cells as usize
 }
 
-fn first_cell(picture: &[u8], slot: u8) -> u32
+pub fn first_cell(picture: &[u8], slot: u8) -> u32
     ensures { λ r. ⌜ r ≡ cellRow (kindIn (now (picture .entry)) slot) .start ⌝ }
 {
     cell_place(kind_in(picture, slot), Location(0))

@@ -69,7 +69,7 @@ digits-last left n some h = digits-step left n some ∙ (rw (lt-ltb n 10 h))
 pub digits-more : (left n : ℕ) → (left ≡ 0 → ⊥) → 10 ≤ n → decimal left n ≡ decimal (left - 1) (n / 10) ++ ((code "0" + n % 10) ∷ [])
 digits-more left n some h = digits-step left n some ∙ (rw (le-ltb n 10 h))
 
-digits-length : (left n : ℕ) → length (decimal left n) ≤ left
+pub digits-length : (left n : ℕ) → length (decimal left n) ≤ left
 unfolding decimal
 digits-length zero n = zero-le
 digits-length (suc left) n =

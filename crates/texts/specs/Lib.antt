@@ -3,4 +3,5 @@ pub mod Text
 pub mod Lines
 pub mod Sheets
 pub mod Listing
+pub mod Plans
 pub mod TextStatements

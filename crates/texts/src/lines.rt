@@ -15,7 +15,7 @@ pub(crate) fn put_header(out: &mut [u8], at: usize) -> usize
 }
 
 // A word and a number.
-fn put_numbered(out: &mut [u8], at: usize, word: &[u8], n: u64) -> usize
+pub(crate) fn put_numbered(out: &mut [u8], at: usize, word: &[u8], n: u64) -> usize
     requires { ⌜ Fits (now out) at (numbered (now word) n) ⌝ }
     ensures { λ r. ⌜ Written (now (out .entry)) at (numbered (now (word .entry)) n) (now (out .exit)) r ⌝ }
 {

@@ -2,6 +2,7 @@
 mod answers;
 mod frames;
 mod pictures;
+mod plans;
 mod recordings;
 mod rows;
 mod statements;

@@ -6,6 +6,7 @@ use crate::answers::refused;
 use crate::answers::say;
 use crate::pictures;
 use crate::pictures::both;
+use crate::plans;
 use crate::rows::NO_CALL;
 use crate::rows::room_of;
 use crate::text::part;
@@ -173,9 +174,10 @@ fn listing_refusal(picture: &[u8]) -> u16 {
     list_into(picture, &mut room, ROOM, replay::begin()).refusal
 }
 
-// The one refusal of calls on a picture that is too short, of a recording, of a part of one, and of a listing.
+// The one refusal of calls on a picture that is too short, of its plans, of a recording, of a part of one, and of a listing.
 fn refusal(picture: &mut [u8]) -> u16 {
-    let calls = both(pictures::short(picture), all_refusal(picture));
+    let asked = both(pictures::short(picture), plans::short(picture));
+    let calls = both(asked, all_refusal(picture));
     let part = both(calls, part_refusal(hear(picture, b"", 0)));
     both(part, listing_refusal(picture))
 }

@@ -40,7 +40,7 @@ pub(crate) fn refusal(a: Answer) -> u16 {
 }
 
 // Whether of a buffer of dots only `filled`, at `from`, is changed.
-fn only(room: &[u8; ROOM], from: usize, filled: &[u8]) -> bool {
+pub(crate) fn only(room: &[u8; ROOM], from: usize, filled: &[u8]) -> bool {
     let mut dots = [b'.'; ROOM];
     laws::copy_in(&mut dots, from, filled);
     check::same(room, &dots)

@@ -5,6 +5,7 @@ use crate::answers::outcome;
 use crate::answers::say;
 use crate::frames;
 use crate::pictures;
+use crate::plans;
 use crate::recordings;
 use crate::rows;
 use crate::text::after;
@@ -53,6 +54,8 @@ fn asked(letter: u8, r: Reader, data: &[u8], picture: &[u8]) -> Words {
         b'n' => rows::name(r, picture),
         b'R' => rows::row(r, picture),
         b'A' => rows::listed(r, picture),
+        b'q' => plans::plan(r, picture),
+        b'Q' => plans::right(r, data, picture),
         _ => apart(letter, r, data),
     }
 }
@@ -224,6 +227,9 @@ name H D into D               n
 row H into D entry H          R
 listed H into D               A
 picture of D bytes            S
+plan H into D bytes           q
+right plan H                  Q
+right plan H B                Q
 record gap G F B              o
 put at D of D gap G F B       p
 recording B                   e

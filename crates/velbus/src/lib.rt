@@ -3,6 +3,7 @@ mod frames;
 mod layout;
 mod parts;
 mod pictures;
+mod plans;
 mod recordings;
 mod words;
 

@@ -1,0 +1,78 @@
+// The cells of a module where they lie in a picture: so many neighbouring places, the first of which is at `at`.
+use laws::number16;
+use places::NOT_HEARD;
+use places::place_at;
+use questions::first_cell;
+ghost use mathlib.Core.Path.{_≡_};
+ghost use Prim.Native.Nat.{_+_, _*_, _≤_};
+ghost use lib.ListN.{length, drop};
+ghost use Rattle.places.specs.Places.{cellRow};
+ghost use Rattle.places.specs.Layout.{placeAt};
+ghost use Rattle.places.specs.Head.{kindIn};
+ghost use Rattle.questions.specs.Fills.{valueAt};
+ghost use Rattle.plan.specs.Reads.{block, lastStartOf};
+ghost use Rattle.plan.specs.Plan.{startFor, nextUnknown, leastReads};
+ghost use Rattle.plan.specs.Replies.{rowAt};
+
+// How many cells a block read reads.
+pub(crate) const BLOCK: usize = 4;
+
+// Where the first cell of the module in a slot lies.
+pub(crate) fn memory_at(picture: &[u8], slot: u8) -> usize
+    ensures { λ r. ⌜ r ≡ placeAt slot (cellRow (kindIn (now (picture .entry)) slot) .start) ⌝ }
+{
+    place_at(slot, first_cell(picture, slot))
+}
+
+// The two bytes of a place as one number.
+pub(crate) fn number_at(picture: &[u8], at: usize) -> u16
+    requires { ⌜ at + 2 ≤ length (now picture) ⌝ }
+    ensures { λ r. ⌜ r ≡ valueAt (now (picture .entry)) at ⌝ }
+{
+    number16(picture[at], picture[at + 1])
+}
+
+// The last start allowed on a module of so many cells.
+pub(crate) fn last_start(cells: usize) -> usize
+    ensures { λ r. ⌜ r ≡ lastStartOf cells ⌝ }
+{
+    if cells < BLOCK { 0 } else { cells - BLOCK }
+}
+
+// The start of the read that is made for an unknown cell.
+pub(crate) fn start_for(cells: usize, cell: usize) -> usize
+    ensures { λ r. ⌜ r ≡ startFor cells cell ⌝ }
+{
+    let last = last_start(cells);
+    if last < cell { last } else { cell }
+}
+
+// The lowest unknown cell from `from` on; a cell past the last where there is none.
+pub(crate) fn next_unknown(picture: &[u8], at: usize, cells: usize, from: usize) -> usize
+    requires { ⌜ at + 2 * cells ≤ length (now picture) ⌝ }
+    ensures { λ r. ⌜ r ≡ nextUnknown from (drop from (rowAt (now (picture .entry)) at cells)) ⌝ }
+{
+    let mut cell = from;
+    while cell < cells {
+        if number_at(picture, at + 2 * cell) == NOT_HEARD {
+            return cell;
+        }
+        cell += 1;
+    }
+    cell
+}
+
+// How many reads the plan holds: the least number that will do.
+pub(crate) fn least(picture: &[u8], at: usize, cells: usize) -> usize
+    requires { ⌜ at + 2 * cells ≤ length (now picture) ⌝ }
+    ensures { λ r. ⌜ r ≡ leastReads (rowAt (now (picture .entry)) at cells) ⌝ }
+{
+    let mut count: usize = 0;
+    let mut cell = next_unknown(picture, at, cells, 0);
+    while cell < cells {
+        let start = start_for(cells, cell);
+        count += 1;
+        cell = next_unknown(picture, at, cells, start + BLOCK);
+    }
+    count
+}
