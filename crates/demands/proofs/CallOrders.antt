@@ -30,12 +30,12 @@ use Rattle.recording.proofs.Entries.{records-are-whole, faults-are-placed, old-
 use Rattle.recording.proofs.Faults.{fault-is-certain, mendable-is-cut}
 use Rattle.recording.proofs.Mending.{cut-can-be-mended}
 use Rattle.recording.proofs.Windows.{window-settles}
-use Rattle.velbus.specs.declared.parts.Held.{Held}
-use Rattle.velbus.specs.declared.parts.Held.the-variants.{Holds, Nothing}
+use Rattle.layouts.specs.declared.parts.Held.{Held}
+use Rattle.layouts.specs.declared.parts.Held.the-variants.{Holds, Nothing}
 use Rattle.velbus.specs.Words.{values, refusedWord, word, roomWord, outcomeWord, answerWord}
 use Rattle.velbus.specs.Recordings.{putWord}
-use Rattle.velbus.specs.Parts.{partsOf}
-use Rattle.velbus.specs.Layout.{messageSize, laidBytes, heldIn}
+use Rattle.layouts.specs.Parts.{partsOf}
+use Rattle.layouts.specs.Layout.{messageSize, laidBytes, heldIn}
 use Rattle.velbus.specs.Frames.{frameSize, frameBytes, readWord, readInto, writtenWord, writtenInto, heldWord, heldInto, writeWord, writeInto}
 use Rattle.demands.specs.Order.{Test, _or_, Verdict, answers, refuses, verdict, readerOrder, writerOrder, putOrder, heldTests, writeOrder}
 use Rattle.demands.specs.Demand1.{ofReading, ofWriting, ofOutcome, ofAnswer, valueOf, ofPut, wordOf, Decided, Word, Recordings, Words}

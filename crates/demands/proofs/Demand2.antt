@@ -16,7 +16,7 @@ use Rattle.history.proofs.InMemory.{in-memory}
 use Rattle.places.proofs.Fitting.{runs-lie, runs-fit}
 use Rattle.places.proofs.Apart.{apart, inside}
 use Rattle.history.proofs.Effects.{effects, hears-command, hears-entry, hears-exchange}
-use Rattle.velbus.proofs.Held.{laid-is-held}
+use Rattle.layouts.proofs.Held.{laid-is-held}
 use Rattle.velbus.proofs.Again.{read-then-written-again, laid-is-read-back}
 use Rattle.demands.specs.Order.{answers}
 use Rattle.demands.specs.Demand1.{ofWriting}

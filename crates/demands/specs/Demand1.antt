@@ -37,7 +37,7 @@ use Rattle.replay.specs.Window.{partNumbers, partAnswer, partPicture, partWindo
 use Rattle.texts.specs.Listing.{listingText, listingAnswer, listingBytes}
 use Rattle.velbus.specs.Words.{values, refusedWord, outcomeWord, answerWord}
 use Rattle.velbus.specs.Recordings.{putWord}
-use Rattle.velbus.specs.Layout.{messageSize}
+use Rattle.layouts.specs.Layout.{messageSize}
 use Rattle.velbus.specs.Frames.{frameSize, readWord, readInto, writeWord, writeInto}
 use Rattle.demands.specs.Order.{Test, Verdict, answers, refuses, verdict, readerOrder, writerOrder, pictureTest, freshOrder, hearingOrder, backOrder, listedOrder, questionOrder, rightOrder, planOrder, putOrder, replayOrder, partOrder, listingOrder, readOrder, writeOrder}
 

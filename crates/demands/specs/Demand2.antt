@@ -18,7 +18,8 @@ use Rattle.places.specs.Apart.{Apart, Inside}
 use Rattle.history.specs.Speaks.{NamesNumbered, BlindsNumbered, SpeaksOf}
 use Rattle.history.specs.InMemory.{InMemory}
 use Rattle.history.specs.Effects.{Effects, HearsCommand, HearsEntry, HearsExchange}
-use Rattle.velbus.specs.Statements.{LaidIsHeld, ReadThenWrittenAgain, LaidIsReadBack}
+use Rattle.layouts.specs.Statements.{LaidIsHeld}
+use Rattle.velbus.specs.Statements.{ReadThenWrittenAgain, LaidIsReadBack}
 use Rattle.demands.specs.Order.{answers, verdict, writerOrder}
 
 -- the message is written as a frame, and that reads back as the message

@@ -23,9 +23,9 @@ use Rattle.questions.specs.Question.{Question, type-of, build-year, build-week,
 use Rattle.questions.specs.Replies.{slotAsked}
 use Rattle.history.specs.Standing.{deepest}
 use Rattle.recording.specs.Write.{inRange, recordBytes}
-use Rattle.velbus.specs.declared.parts.Held.{Held}
-use Rattle.velbus.specs.declared.parts.Held.the-variants.{Holds, Nothing}
-use Rattle.velbus.specs.Layout.{messageSize, heldIn}
+use Rattle.layouts.specs.declared.parts.Held.{Held}
+use Rattle.layouts.specs.declared.parts.Held.the-variants.{Holds, Nothing}
+use Rattle.layouts.specs.Layout.{messageSize, heldIn}
 use Rattle.velbus.specs.Frames.{frameSize}
 
 infix 70 _or_

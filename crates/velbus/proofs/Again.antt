@@ -33,13 +33,14 @@ use Rattle.codec.specs.declared.writer.Writing.the-variants.{Written}
 use Rattle.frame.proofs.Listed.{everywhere, of-any}
 use Rattle.codec.proofs.Shapes.{cell-near, block-near}
 use Rattle.codec.proofs.RoundTrip.{read-then-written, written-then-read, written-lawful}
-use Rattle.velbus.specs.Parts.{timeSeconds, Numbered, longTypes, shortTypes, noMessage, numberIn, commandParts, partsOf}
+use Rattle.layouts.specs.Parts.{timeSeconds, Numbered, longTypes, shortTypes, noMessage, numberIn, commandParts, partsOf}
 use Rattle.velbus.specs.Words.{roomWord}
-use Rattle.velbus.specs.Layout.{messageSize, laidBytes, heldIn}
+use Rattle.layouts.specs.Layout.{messageSize, laidBytes, heldIn}
 use Rattle.velbus.specs.Frames.{frameSize, frameBytes, heldWord, heldInto, readInto, writeWord, writeInto}
-use Rattle.velbus.specs.Statements.{Fitting, ReadThenWrittenAgain, LaidIsReadBack}
-use Rattle.velbus.specs.declared.parts.Held.the-variants.{Holds}
-use Rattle.velbus.proofs.Held.{laid-is-held}
+use Rattle.layouts.specs.Statements.{Fitting}
+use Rattle.velbus.specs.Statements.{ReadThenWrittenAgain, LaidIsReadBack}
+use Rattle.layouts.specs.declared.parts.Held.the-variants.{Holds}
+use Rattle.layouts.proofs.Held.{laid-is-held}
 
 -- What is written has a number, and a location and seconds that fit their fields.
 

@@ -15,11 +15,11 @@ use Rattle.frame.specs.declared.messages.Reading.the-variants as r
 use Rattle.codec.specs.declared.writer.Frame.{Frame}
 use Rattle.codec.specs.declared.writer.Writing.{Writing}
 use Rattle.codec.specs.declared.writer.Writing.the-variants as w
-use Rattle.velbus.specs.declared.parts.Held.{Held}
-use Rattle.velbus.specs.declared.parts.Held.the-variants.{Holds, Nothing}
+use Rattle.layouts.specs.declared.parts.Held.{Held}
+use Rattle.layouts.specs.declared.parts.Held.the-variants.{Holds, Nothing}
 use Rattle.velbus.specs.Words.{refusedWord, word, roomNumbers}
-use Rattle.velbus.specs.Parts.{partsOf}
-use Rattle.velbus.specs.Layout.{messageSize, laidBytes, heldIn}
+use Rattle.layouts.specs.Parts.{partsOf}
+use Rattle.layouts.specs.Layout.{messageSize, laidBytes, heldIn}
 
 -- velbus_read: the reader's own refusals, then 13
 abbrev pub readWord : Reading → ℕ → ℕ

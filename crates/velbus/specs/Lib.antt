@@ -1,5 +1,3 @@
-pub mod Parts
-pub mod Layout
 pub mod Words
 pub mod Frames
 pub mod Recordings

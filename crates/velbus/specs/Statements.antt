@@ -1,4 +1,4 @@
--- What is promised of messages and frames in a C caller's buffers. The proofs are in proofs/Held.antt and proofs/Again.antt.
+-- What is promised of messages and frames in a C caller's buffers. The proof is proofs/Again.antt.
 use Prim.Native.Nat.{ℕ, _<_, _≤_}
 use mathlib.Core.Path.{_≡_}
 use mathlib.Core.List.{List, _++_}
@@ -13,22 +13,11 @@ use Rattle.codec.specs.declared.writer.Frame.{Frame}
 use Rattle.codec.specs.declared.writer.Writing.the-variants.{Written}
 use Rattle.frame.specs.declared.identifiers.Address.{Address}
 use Rattle.frame.specs.declared.messages.Message.{Message}
-use Rattle.velbus.specs.declared.parts.Held.the-variants.{Holds}
-use Rattle.velbus.specs.Parts.{noMessage, partsOf}
-use Rattle.velbus.specs.Layout.{messageSize, laidBytes, heldIn}
+use Rattle.layouts.specs.declared.parts.Held.the-variants.{Holds}
+use Rattle.layouts.specs.Parts.{noMessage, partsOf}
+use Rattle.layouts.specs.Layout.{messageSize, laidBytes, heldIn}
 use Rattle.velbus.specs.Frames.{frameBytes, frameSize, readWord, readInto, writeWord, writeInto}
 use Rattle.velbus.specs.Words.{roomWord}
-
--- the message has a number: the type inside FF is one that the table has for its shape; and its location and seconds fit their fields, as
--- those of the code's `u16` and `u32` do
-pub record Fitting (a : Address) (m : Message) : Type 0 where
-  pub numbered : partsOf a m .what < noMessage
-  pub location : partsOf a m .location < 65536
-  pub seconds : partsOf a m .seconds < 4294967296
-
--- a message that is laid out and taken in again is the same message, whatever stands after it
-abbrev pub LaidIsHeld : Type 0
-LaidIsHeld = (a : Address) (m : Message) (after : List ℕ) → Fitting a m → heldIn (laidBytes (partsOf a m) ++ after) ≡ Holds a m
 
 -- velbus_write gives just this frame, into the buffer `out`
 pub record WritesAgain (kind : ℕ) (message out : List ℕ) (identifier remote : ℕ) (s : List ℕ) : Type 0 where

@@ -1,9 +1,4 @@
 // Frames read into a lent message, and messages written into a lent frame.
-use crate::layout::MESSAGE_SIZE;
-use crate::layout::held_in;
-use crate::layout::laid;
-use crate::parts::Held;
-use crate::parts::parts_of;
 use crate::words::refused;
 use crate::words::room_word;
 use codec::Frame;
@@ -15,14 +10,19 @@ use frame::Reading;
 use laws::NOT_LISTED;
 use laws::TOO_SHORT;
 use laws::copy_in;
+use layouts::Held;
+use layouts::MESSAGE_SIZE;
+use layouts::held_in;
+use layouts::laid;
+use layouts::parts_of;
 ghost use mathlib.Core.Path.{_≡_};
 ghost use lib.ListN.{length};
 ghost use Rattle.judging.specs.Reading.{reading};
 ghost use Rattle.codec.specs.Writing.{writing};
 ghost use Rattle.laws.specs.Copies.{copiedIn};
 ghost use Rattle.velbus.specs.Words.{roomWord};
-ghost use Rattle.velbus.specs.Parts.{partsOf};
-ghost use Rattle.velbus.specs.Layout.{messageSize, laidBytes, heldIn};
+ghost use Rattle.layouts.specs.Parts.{partsOf};
+ghost use Rattle.layouts.specs.Layout.{messageSize, laidBytes, heldIn};
 ghost use Rattle.velbus.specs.Frames.{frameSize, frameBytes, readWord, readInto, writtenWord, writtenInto, heldWord, heldInto, writeWord, writeInto};
 
 const FRAME_SIZE: u16 = 12;

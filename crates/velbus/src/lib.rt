@@ -1,7 +1,5 @@
 // The C interface: numbers and byte buffers in, one result word out.
 mod frames;
-mod layout;
-mod parts;
 mod pictures;
 mod plans;
 mod recordings;
