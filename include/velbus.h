@@ -22,7 +22,7 @@
 extern "C" {
 #endif
 
-#define VELBUS_VERSION "4.2.0"    /* velbus.pc takes it from here */
+#define VELBUS_VERSION "4.3.0"    /* velbus.pc takes it from here */
 
 /* ---- refusal numbers ---- */
 #define VELBUS_BAD_IDENTIFIER 1   /* identifier above 2047 */
@@ -59,6 +59,9 @@ enum { VELBUS_BLIND_OFF = 0, VELBUS_BLIND_UP = 1, VELBUS_BLIND_DOWN = 2 };
 #define VELBUS_PICTURE_SIZE 18992 /* bytes of a picture; velbus_picture_size() gives the same number */
 #define VELBUS_MESSAGE_SIZE 20    /* bytes of a message */
 #define VELBUS_FRAME_SIZE 12      /* bytes of a written frame */
+#define VELBUS_BENCH_SIZE 514     /* bytes of a bench; velbus_bench_size() gives the same number */
+#define VELBUS_BENCH_CELLS 256    /* bytes that a bench's cells are named by */
+#define VELBUS_BENCH_REPLIES 64   /* the most replies of a bench to one frame: a buffer of so many frames is enough for any */
 #define VELBUS_DATA_SIZE 8        /* the most data bytes of a frame */
 #define VELBUS_NAME_LENGTH 16     /* characters of a name */
 #define VELBUS_NAME_SIZE 32       /* bytes that velbus_name fills, two for each character */
@@ -187,6 +190,22 @@ uint32_t velbus_plan(const uint8_t *picture, size_t picture_len, uint32_t addres
 /* A proposed plan, from any program and in any order, its starts as velbus_plan gives them. Value: 1 exactly if every start is allowed for the module's
  * type, no cell that is not heard is missed, and no shorter list would do; else 0. An odd last byte is no start, so that such bytes are 0. Refuses 5. */
 uint32_t velbus_right_plan(const uint8_t *picture, size_t picture_len, uint32_t address, const uint8_t *starts, size_t starts_len);
+
+/* ---- a bench: a VMB8IR to teach on, in VELBUS_BENCH_SIZE bytes that the caller lends; fewer are 13, before anything else ---- */
+
+/* The bytes that a bench needs, as a bare number. */
+uint32_t velbus_bench_size(void);
+
+/* Makes the bytes a bench at an address, with the first VELBUS_BENCH_CELLS of cells as its memory; its LEDs are off. Its serial number is that of
+ * cells H'00FE' and H'00FF'. Refuses 13 for too few cells, 5 for an address above 255, 9 with byte 1 for address 0. */
+uint32_t velbus_bench_new(uint8_t *bench, size_t bench_len, uint32_t address, const uint8_t *cells, size_t cells_len,
+                          uint8_t map_version, uint8_t build_year, uint8_t build_week);
+
+/* Hands the bench a frame. Value: the number of replies in out, VELBUS_FRAME_SIZE bytes each, as velbus_write gives a frame; 0 for a frame at another
+ * address, which changes nothing. Refuses 1, 17, 2, 3; then, at its own address, 6 for a command that only a module sends; then as velbus_read does
+ * with type VELBUS_VMB8IR; last 13, for too short a buffer. A refused frame stores nothing. */
+uint32_t velbus_bench_take(uint8_t *bench, size_t bench_len, uint32_t identifier, uint32_t remote, const uint8_t *data,
+                           size_t data_len, uint8_t *out, size_t out_len);
 
 /* ---- recordings ---- */
 

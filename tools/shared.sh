@@ -3,7 +3,7 @@
 #   strict     their warning flags
 #   run        what runs an x86-64 program on this machine; empty where the machine does it by itself
 #   emulator   the files that run needs
-# and has `need`, which sees to packages, and `built`, which has the toolchain bring a file up to date.
+# and has `need`, which sees to packages, `built`, which has the toolchain bring a file up to date, and `block`, which takes an example out of a page.
 
 me=$0
 strict="-Wall -Wextra -Wpedantic -Werror"
@@ -72,3 +72,6 @@ built() {
         exit "$status"
     fi
 }
+
+# block WORD FILE: the text of the file's block that begins with ```WORD
+block() { awk -v begin='```'"$1" '$0 == "```" { in_block = 0 } in_block; $0 == begin { in_block = 1 }' "$2"; }

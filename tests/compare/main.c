@@ -20,6 +20,7 @@ int main(int argc, char **argv)
     every_message(events / 2);
     strange_pictures(events / 1000);
     every_event(events);
+    every_dialogue(events / 4);
     printf("%llu comparisons agree\n", comparisons());
     return 0;
 }

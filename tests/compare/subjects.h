@@ -10,6 +10,7 @@ void every_frame(void);
 void every_message(unsigned long turns);
 void every_event(unsigned long events);
 void strange_pictures(unsigned long turns);
+void every_dialogue(unsigned long dialogues);
 
 /* ---- drawn from likely.c ---- */
 

@@ -135,6 +135,7 @@ static void ask_row(void)
 {
     uint32_t a = some();
     check_row(a, number(2) & 0x3FF);
+    check_plan(a, number(1));
 }
 
 /* every question that has an answer, of every module */
@@ -146,6 +147,7 @@ static void ask_everything(void)
         uint32_t a = reference.now.module[i].address;
         check_build(a);
         check_row(a, 2 * 256);
+        check_plan(a, VELBUS_PLAN_SIZE);
         for (uint32_t k = 1; k <= 8; k++) {
             check_led(a, k);
             check_blind(a, k);

@@ -87,6 +87,20 @@ unsigned ref_least_reads(const struct ref_module *m);
 /* 1 where the starts are a right plan, else 0 */
 unsigned ref_right_plan(const struct ref_module *m, const unsigned *starts, size_t count);
 
+/* ---- a bench ---- */
+
+struct ref_bench {
+    uint8_t address, version, year, week;
+    uint8_t memory[256];
+    uint8_t on, slow, fast; /* a bit for each LED; both blink bits are very fast */
+};
+
+/* the refusal, a 9 with its byte; one that is refused stays as it was */
+unsigned ref_bench_new(struct ref_bench *b, uint32_t address, const uint8_t cells[256], uint8_t version, uint8_t year, uint8_t week);
+
+/* the refusal, a 9 with its byte; else count is the number of replies, which stand in replies. `room` is the length of the buffer lent */
+unsigned ref_bench_take(struct ref_bench *b, const struct ref_frame *frame, size_t room, uint8_t replies[64][12], size_t *count);
+
 /* ---- recordings ---- */
 
 /* the refusal number; a record that is put is laid into buffer at `at`, and put is its length */

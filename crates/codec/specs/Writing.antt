@@ -1,6 +1,6 @@
 -- The frame that a message is written as, or the first refusal in document 01's order.
-use Prim.Native.Nat.{ℕ}
-use mathlib.Core.List.{[]}
+use Prim.Native.Nat.{ℕ, _/_, _%_}
+use mathlib.Core.List.{List, [], _∷_}
 use mathlib.Core.Bool.{Bool, not, _||_}
 use lib.Dec.{eqb}
 use Rattle.laws.specs.Refusals.{badType, typeNotKnown, notListed}
@@ -8,7 +8,7 @@ use Rattle.laws.specs.Tests.{among, unless, unlessRefused}
 use Rattle.laws.specs.Answers.{Numbers, value, refusal}
 use Rattle.frame.specs.Identifiers.{low, identifierOf}
 use Rattle.frame.specs.Types.{noType, handedTypes, rowFor, isListed}
-use Rattle.frame.specs.Bytes.{dataOf}
+use Rattle.frame.specs.Bytes.{dataOf, bytesOf}
 use Rattle.frame.specs.Messages.{typeCommand}
 use Rattle.codec.specs.Encoding.{encode}
 use Rattle.frame.specs.Fields.{fault, fieldRefusal}
@@ -62,3 +62,10 @@ writing kind a (Tells m) = commandWritten kind a m
 abbrev pub writingNumbers : Writing → Numbers
 writingNumbers (Written f) = value 0
 writingNumbers (Refused n) = refusal n
+
+-- a frame in 12 bytes, as it lies in a buffer: identifier low, identifier high, remote flag, count, eight data bytes
+abbrev pub frameSize : ℕ
+frameSize = 12
+
+abbrev pub frameBytes : Frame → List ℕ
+frameBytes f = f .identifier % 256 ∷ f .identifier / 256 % 256 ∷ f .remote % 256 ∷ f .bytes .0 % 256 ∷ bytesOf (f .bytes)

@@ -19,7 +19,7 @@ ghost use mathlib.Core.Path.{_≡_};
 ghost use Prim.Native.Nat.{_≤_};
 ghost use Rattle.frame.specs.Identifiers.{identifierOf};
 ghost use Rattle.judging.specs.Reading.{ownType};
-ghost use Rattle.codec.specs.Writing.{handedRefusal, typeFits, writeRefusal, requestFrame, commandFrame, writtenAs, commandWritten, writing};
+ghost use Rattle.codec.specs.Writing.{handedRefusal, typeFits, writeRefusal, requestFrame, commandFrame, writtenAs, commandWritten, writing, frameBytes};
 
 pub struct Frame {
     pub identifier: u32,
@@ -137,4 +137,28 @@ pub fn write(kind: u32, address: Address, message: Message) -> Writing
         Message::TypeRequest => request_written(kind, address),
         Message::Tells(m) => command_written(kind, address, m),
     }
+}
+
+// How many bytes a frame takes in a buffer.
+pub const FRAME_SIZE: u16 = 12;
+
+// Identifier low, identifier high, remote flag, count, eight data bytes.
+pub fn frame_bytes(f: Frame) -> [u8; 12]
+    ensures { λ r. ⌜ r ≡ frameBytes f ⌝ }
+{
+    let d = f.bytes;
+    [
+        (f.identifier % 256) as u8,
+        (f.identifier / 256 % 256) as u8,
+        (f.remote % 256) as u8,
+        (d.0 % 256) as u8,
+        d.1,
+        d.2,
+        d.3,
+        d.4,
+        d.5,
+        d.6,
+        d.7,
+        d.8,
+    ]
 }

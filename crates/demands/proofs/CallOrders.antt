@@ -14,7 +14,7 @@ use Rattle.laws.specs.Answers as numbers
 use Rattle.laws.specs.Copies.{copiedIn}
 use Rattle.frame.specs.Types.{handedTypes}
 use Rattle.judging.specs.Reading.{reading}
-use Rattle.codec.specs.Writing.{writing}
+use Rattle.codec.specs.Writing.{writing, frameSize, frameBytes}
 use Rattle.frame.specs.declared.messages.Reading.{Reading}
 use Rattle.frame.specs.declared.messages.Reading.the-variants as reader
 use Rattle.codec.specs.declared.writer.Writing.{Writing}
@@ -36,7 +36,7 @@ use Rattle.velbus.specs.Words.{values, refusedWord, word, roomWord, outcomeWord
 use Rattle.velbus.specs.Recordings.{putWord}
 use Rattle.layouts.specs.Parts.{partsOf}
 use Rattle.layouts.specs.Layout.{messageSize, laidBytes, heldIn}
-use Rattle.velbus.specs.Frames.{frameSize, frameBytes, readWord, readInto, writtenWord, writtenInto, heldWord, heldInto, writeWord, writeInto}
+use Rattle.velbus.specs.Frames.{readWord, readInto, writtenWord, writtenInto, heldWord, heldInto, writeWord, writeInto}
 use Rattle.demands.specs.Order.{Test, _or_, Verdict, answers, refuses, verdict, readerOrder, writerOrder, putOrder, heldTests, writeOrder}
 use Rattle.demands.specs.Demand1.{ofReading, ofWriting, ofOutcome, ofAnswer, valueOf, ofPut, wordOf, Decided, Word, Recordings, Words}
 use Rattle.demands.proofs.Orders.{answers-refuses, by-test, by-fault, answered-then, refused-then}

@@ -21,6 +21,8 @@ determined =
       hear-all = λ b s. of-lent _ _;
       hear-part = λ b w st n. of-two-lent _ _ _;
       put-listing = λ b out st. of-lent _ _;
+      bench-new = λ b address cells version year week. (of-lent _ _, of-lent _ _);
+      bench-take = λ b identifier remote s out. (of-two-lent _ _ _, of-two-lent _ _ _);
       read = λ kind identifier remote s out. of-lent _ _;
       write = λ kind message out. of-lent _ _;
     }

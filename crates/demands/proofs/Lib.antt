@@ -3,6 +3,7 @@ pub mod Orders
 pub mod FrameOrders
 pub mod PictureOrders
 pub mod QuestionOrders
+pub mod BenchOrders
 pub mod CallOrders
 pub mod ReplayOrders
 pub mod Demand1

@@ -21,11 +21,11 @@ use Rattle.places.specs.Head.{kindIn}
 use Rattle.questions.specs.Question.{Question, type-of, build-year, build-week, cell, led, blind, name-row, name-bytes, memory-row, memory-bytes}
 use Rattle.questions.specs.Replies.{slotAsked}
 use Rattle.recording.proofs.Entries.{faults-are-placed}
+use Rattle.codec.specs.Writing.{frameSize}
 use Rattle.layouts.specs.declared.parts.Held.{Held}
 use Rattle.layouts.specs.declared.parts.Held.the-variants.{Holds, Nothing}
 use Rattle.velbus.specs.Words.{values}
 use Rattle.layouts.specs.Layout.{messageSize, heldIn}
-use Rattle.velbus.specs.Frames.{frameSize}
 use Rattle.demands.specs.Order.{Test, _or_, Verdict, answers, refuses, verdict, frameOrder, readerOrder, messageTests, writerOrder, pictureTest, freshOrder, roomTest, kindHeard, hearingOrder, backOrder, listedOrder, questionTests, questionOrder, rightOrder, planOrder, putOrder, replayOrder, partOrder, listingOrder, readOrder, heldTests, writeOrder}
 use Rattle.demands.specs.Demand1.{wordOf}
 use Rattle.demands.specs.Withdrawn.{Never, Withdrawn}

@@ -1,5 +1,5 @@
 -- Demand 1: any identifier, remote flag, data, recording or question is given an answer or the one refusal number that the rules give; a refused
--- call alters nothing that was handed over. The proofs are proofs/FrameOrders.antt, PictureOrders.antt, QuestionOrders.antt, CallOrders.antt,
+-- call alters nothing that was handed over. The proofs are proofs/FrameOrders.antt, PictureOrders.antt, QuestionOrders.antt, BenchOrders.antt, CallOrders.antt,
 -- ReplayOrders.antt and, of the whole, Demand1.antt.
 use Prim.Native.Nat.{ℕ, _*_, _/_, _%_, _<_}
 use mathlib.Core.Path.{_≡_}
@@ -9,7 +9,7 @@ use lib.ListN.{length}
 use Rattle.laws.specs.Answers as numbers
 use Rattle.laws.specs.Refusals.{codeAt}
 use Rattle.judging.specs.Reading.{reading, readingNumbers}
-use Rattle.codec.specs.Writing.{writing, writingNumbers}
+use Rattle.codec.specs.Writing.{writing, writingNumbers, frameSize}
 use Rattle.frame.specs.declared.identifiers.Address.{Address}
 use Rattle.frame.specs.declared.messages.Message.{Message}
 use Rattle.frame.specs.declared.messages.Reading.{Reading}
@@ -26,6 +26,8 @@ use Rattle.questions.specs.Question.{Question, Reply}
 use Rattle.questions.specs.Replies.{slotAsked, keptAnswer, listing, reply}
 use Rattle.plan.specs.Plan.{leastReads}
 use Rattle.plan.specs.Replies.{memoryIn, planReply, planBytesReply, rightAnswer, rightBytesAnswer}
+use Rattle.bench.specs.declared.taking.Taken.{Taken}
+use Rattle.bench.specs.Taking.{making, takenNumbers, taking}
 use Rattle.recording.specs.declared.writes.Put.{Put}
 use Rattle.recording.specs.Write.{recordBytes, putNumbers, putAnswer, putBytes}
 use Rattle.recording.specs.Statements.{RecordsAreWhole, FaultsArePlaced, FaultIsCertain, CutCanBeMended, MendableIsCut, WindowSettles, OldRecordingsRead}
@@ -38,8 +40,8 @@ use Rattle.texts.specs.Listing.{listingText, listingAnswer, listingBytes}
 use Rattle.velbus.specs.Words.{values, refusedWord, outcomeWord, answerWord}
 use Rattle.velbus.specs.Recordings.{putWord}
 use Rattle.layouts.specs.Layout.{messageSize}
-use Rattle.velbus.specs.Frames.{frameSize, readWord, readInto, writeWord, writeInto}
-use Rattle.demands.specs.Order.{Test, Verdict, answers, refuses, verdict, readerOrder, writerOrder, pictureTest, freshOrder, hearingOrder, backOrder, listedOrder, questionOrder, rightOrder, planOrder, putOrder, replayOrder, partOrder, listingOrder, readOrder, writeOrder}
+use Rattle.velbus.specs.Frames.{readWord, readInto, writeWord, writeInto}
+use Rattle.demands.specs.Order.{Test, Verdict, answers, refuses, verdict, readerOrder, writerOrder, pictureTest, freshOrder, hearingOrder, backOrder, listedOrder, questionOrder, rightOrder, planOrder, makingOrder, takingOrder, putOrder, replayOrder, partOrder, listingOrder, readOrder, writeOrder}
 
 -- ---- what each kind of answer comes to, by its numbers
 abbrev pub verdictOf : numbers.Numbers → Verdict
@@ -60,6 +62,9 @@ ofAnswer a = verdictOf (answerNumbers a)
 
 abbrev pub ofPut : Put → Verdict
 ofPut p = verdictOf (putNumbers p)
+
+abbrev pub ofTaken : Taken → Verdict
+ofTaken t = verdictOf (takenNumbers t)
 
 abbrev pub ofReplayed : Replayed → Verdict
 ofReplayed r = verdictOf (replayedNumbers r)
@@ -121,6 +126,13 @@ pub record Questions : Type 0 where
   pub right-plan : (b : List ℕ) (a : ℕ) (starts : List ℕ) → ofAnswer (rightAnswer b a starts) ≡ verdict (rightOrder b a)
   pub right-plan-bytes : (b : List ℕ) (a : ℕ) (bytes : List ℕ) → ofAnswer (rightBytesAnswer b a bytes) ≡ verdict (rightOrder b a)
 
+-- the bench, of any bytes; a refusal leaves both buffers as they were
+pub record Benches : Type 0 where
+  pub new : (b : List ℕ) (address : ℕ) (cells : List ℕ) (version year week : ℕ) → Call (makingOrder b address cells) b (making b address cells version year week)
+  pub take : (b : List ℕ) (identifier remote : ℕ) (s out : List ℕ) → ofTaken (taking b identifier remote s out .answer) ≡ verdict (takingOrder b identifier remote s (length out))
+  pub keeps : (b : List ℕ) (identifier remote : ℕ) (s out : List ℕ) (n : ℕ) → ofTaken (taking b identifier remote s out .answer) ≡ refuses n
+      → (taking b identifier remote s out .bench ≡ b) × (taking b identifier remote s out .buffer ≡ out)
+
 -- recordings: a record put; and one read, where the first fault decides: 15 at the input's end, exactly where more bytes could mend it, or 16 at
 -- the byte from which it is certain, whatever follows
 pub record Recordings : Type 0 where
@@ -165,6 +177,7 @@ pub record Demand1 : Type 0 where
   pub frames : Frames
   pub pictures : Pictures
   pub questions : Questions
+  pub benches : Benches
   pub recordings : Recordings
   pub replaying : Replaying
   pub words : Words

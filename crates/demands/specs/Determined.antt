@@ -19,7 +19,9 @@ use Rattle.replay.specs.declared.window.Stream.{Stream}
 use Rattle.replay.specs.Replay.{replayAnswer, replayPicture}
 use Rattle.replay.specs.Window.{partAnswer, partPicture, partWindow}
 use Rattle.texts.specs.Listing.{listingAnswer, listingBytes}
+use Rattle.bench.specs.Taking.{making, Outcome, taking}
 use Rattle.velbus.specs.Words.{outcomeWord, answerWord}
+use Rattle.velbus.specs.Benches.{takenWord}
 use Rattle.velbus.specs.Recordings.{putWord}
 use Rattle.velbus.specs.Frames.{readWord, readInto, writeWord, writeInto}
 
@@ -29,6 +31,9 @@ OneCall r = OneResult (r .outcome) (r .buffer) × OneResult (outcomeWord (r .out
 
 abbrev pub OneReply : Reply → Type 0
 OneReply r = OneResult (r .answer) (r .buffer) × OneResult (answerWord (r .answer)) (r .buffer)
+
+abbrev pub OneTaking : Outcome → Type 0
+OneTaking o = OneOutcome (o .answer) (o .bench) (o .buffer) × OneOutcome (takenWord (o .answer)) (o .bench) (o .buffer)
 
 pub record Determined : Type 1 where
   -- whatever the definitions are
@@ -55,6 +60,9 @@ pub record Determined : Type 1 where
   pub hear-all : (b s : List ℕ) → OneResult (replayAnswer b s) (replayPicture b s)
   pub hear-part : (b w : List ℕ) (st : Stream) (n : ℕ) → OneOutcome (partAnswer b w st n) (partPicture b w st n) (partWindow b w st n)
   pub put-listing : (b out : List ℕ) (st : Stream) → OneResult (listingAnswer b out st) (listingBytes b out st)
+  -- bench_new, bench_take
+  pub bench-new : (b : List ℕ) (address : ℕ) (cells : List ℕ) (version year week : ℕ) → OneCall (making b address cells version year week)
+  pub bench-take : (b : List ℕ) (identifier remote : ℕ) (s out : List ℕ) → OneTaking (taking b identifier remote s out)
   -- velbus_read, velbus_write
   pub read : (kind identifier remote : ℕ) (s out : List ℕ)
       → OneResult (readWord (reading kind identifier remote s) (length out)) (readInto (reading kind identifier remote s) out)

@@ -1,13 +1,13 @@
 -- Document 01's order of refusals: for each call the tests that it makes, in the paper's order, each with the number of its refusal.
 use Prim.Native.Nat.{ℕ, _+_, _*_}
 use mathlib.Core.List.{List, [], _∷_, _++_}
-use mathlib.Core.Bool.{Bool, false, not, _||_, cond}
+use mathlib.Core.Bool.{Bool, false, not, _&&_, _||_, cond}
 use lib.Dec.{eqb, ltb, leb}
 use lib.ListN.{length}
 use Rattle.laws.specs.Refusals.{badIdentifier, sid0Set, badForm, badPriority, badType, typeNotKnown, notListed, wrongLength, wrongPriority, badField, codeAt, noRoom, nothingKept, noSuchPlace, tooShort, badNumber}
 use Rattle.laws.specs.Tests.{among}
 use Rattle.frame.specs.Identifiers.{low, priorities, priorityOf, elevenBits, sid0Clear, wellFormed}
-use Rattle.frame.specs.Types.{noType, moduleTypes, handedTypes, rowFor, isListed, extentOf}
+use Rattle.frame.specs.Types.{noType, vmb8ir, moduleTypes, handedTypes, rowFor, isListed, extentOf}
 use Rattle.frame.specs.Bytes.{byte}
 use Rattle.frame.specs.Messages.{typeCommand}
 use Rattle.codec.specs.Encoding.{encode}
@@ -22,11 +22,13 @@ use Rattle.places.specs.Head.{short, modulesOf, keptOf, slotOf, kindIn}
 use Rattle.questions.specs.Question.{Question, type-of, build-year, build-week, cell, led, blind, name-row, name-bytes, memory-row, memory-bytes}
 use Rattle.questions.specs.Replies.{slotAsked}
 use Rattle.history.specs.Standing.{deepest}
+use Rattle.bench.specs.Bench.{benchSize, namedCells, ownAddress, done, replies}
+use Rattle.bench.specs.Taking.{sentOnly}
 use Rattle.recording.specs.Write.{inRange, recordBytes}
+use Rattle.codec.specs.Writing.{frameSize}
 use Rattle.layouts.specs.declared.parts.Held.{Held}
 use Rattle.layouts.specs.declared.parts.Held.the-variants.{Holds, Nothing}
 use Rattle.layouts.specs.Layout.{messageSize, heldIn}
-use Rattle.velbus.specs.Frames.{frameSize}
 
 infix 70 _or_
 -- a test, or the number of the refusal where it fails
@@ -183,6 +185,35 @@ rightOrder b a = pictureTest b ∷ ltb (slotAsked b a) room or typeNotKnown ∷ 
 
 abbrev pub planOrder : List ℕ → ℕ → ℕ → List ℕ → List Test
 planOrder b a n out = pictureTest b ∷ ltb (slotAsked b a) room or typeNotKnown ∷ rowTest n out ∷ []
+
+-- ---- the bench
+-- a new one: 13 for its bytes, 13 for the cells, 5, 9 at byte 1
+abbrev pub makingOrder : List ℕ → ℕ → List ℕ → List Test
+makingOrder b address cells =
+    not (ltb (length b) benchSize) or tooShort
+    ∷ not (ltb (length cells) namedCells) or tooShort
+    ∷ not (leb addresses address) or typeNotKnown
+    ∷ not (eqb address 0) or codeAt badField 1
+    ∷ []
+
+-- the message that a frame of good form is, and the bytes that its replies take
+abbrev pub messageIn : ℕ → List ℕ → Message
+messageIn remote s = cond (eqb remote 1) TypeRequest (Tells (commandOf s))
+
+abbrev pub replyRoom : List ℕ → Message → ℕ
+replyRoom b m = frameSize * length (replies (done m b) m)
+
+-- a frame at its own address: 6 for a command that only a module sends; the reader's others, by type H'0A'; last 13
+abbrev pub ownTests : List ℕ → ℕ → ℕ → List ℕ → ℕ → List Test
+ownTests b identifier remote s space =
+    not (eqb remote 0 && among (byte 1 s) sentOnly) or notListed
+    ∷ (cond (eqb remote 1) (requestTests identifier) (otherTests vmb8ir identifier s) ++ (leb (replyRoom b (messageIn remote s)) space or tooShort ∷ []))
+
+-- a frame: 13 for the bench; 1, 17, 2, 3; nothing more at another address
+abbrev pub takingOrder : List ℕ → ℕ → ℕ → List ℕ → ℕ → List Test
+takingOrder b identifier remote s space =
+    not (ltb (length b) benchSize) or tooShort
+    ∷ (formTests vmb8ir identifier remote s ++ cond (eqb (busAddress identifier) (ownAddress b)) (ownTests b identifier remote s space) [])
 
 -- ---- recordings
 -- a record put at a place: 16, then 13

@@ -9,6 +9,7 @@ mod stepping;
 mod telling;
 
 pub use hearing::hear;
+pub use leds::leds_by;
 pub use places::SIZE;
 pub use steering::fresh;
 pub use steering::fresh_with;

@@ -19,7 +19,7 @@ use Rattle.frame.specs.Messages.{typeCommand}
 use Rattle.codec.specs.Encoding.{encode}
 use Rattle.frame.specs.Fields.{isBlind, timeAllowed, timedFault, fault}
 use Rattle.judging.specs.Reading.{ownType, reading}
-use Rattle.codec.specs.Writing.{typeFits, writing}
+use Rattle.codec.specs.Writing.{typeFits, writing, frameSize, frameBytes}
 use Rattle.frame.specs.declared.types.Row.{Row}
 use Rattle.frame.specs.declared.identifiers.Address.{Address}
 use Rattle.frame.specs.declared.messages.Time.{Time}
@@ -36,7 +36,7 @@ use Rattle.codec.proofs.RoundTrip.{read-then-written, written-then-read, writte
 use Rattle.layouts.specs.Parts.{timeSeconds, Numbered, longTypes, shortTypes, noMessage, numberIn, commandParts, partsOf}
 use Rattle.velbus.specs.Words.{roomWord}
 use Rattle.layouts.specs.Layout.{messageSize, laidBytes, heldIn}
-use Rattle.velbus.specs.Frames.{frameSize, frameBytes, heldWord, heldInto, readInto, writeWord, writeInto}
+use Rattle.velbus.specs.Frames.{heldWord, heldInto, readInto, writeWord, writeInto}
 use Rattle.layouts.specs.Statements.{Fitting}
 use Rattle.velbus.specs.Statements.{ReadThenWrittenAgain, LaidIsReadBack}
 use Rattle.layouts.specs.declared.parts.Held.the-variants.{Holds}

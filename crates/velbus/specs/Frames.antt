@@ -1,18 +1,16 @@
 -- Frames read into a lent message, and messages written into a lent frame: the result word, and what the buffer then holds.
-use Prim.Native.Nat.{ℕ, _/_, _%_}
-use mathlib.Core.List.{List, _∷_}
+use Prim.Native.Nat.{ℕ}
+use mathlib.Core.List.{List}
 use mathlib.Core.Bool.{cond}
 use lib.Dec.{ltb}
 use lib.ListN.{length}
 use Rattle.laws.specs.Refusals.{notListed, tooShort}
 use Rattle.laws.specs.Answers.{unlessRefusal}
 use Rattle.laws.specs.Copies.{copiedIn}
-use Rattle.frame.specs.Bytes.{bytesOf}
 use Rattle.judging.specs.Reading.{readingNumbers}
-use Rattle.codec.specs.Writing.{handedRefusal, writing, writingNumbers}
+use Rattle.codec.specs.Writing.{handedRefusal, writing, writingNumbers, frameSize, frameBytes}
 use Rattle.frame.specs.declared.messages.Reading.{Reading}
 use Rattle.frame.specs.declared.messages.Reading.the-variants as r
-use Rattle.codec.specs.declared.writer.Frame.{Frame}
 use Rattle.codec.specs.declared.writer.Writing.{Writing}
 use Rattle.codec.specs.declared.writer.Writing.the-variants as w
 use Rattle.layouts.specs.declared.parts.Held.{Held}
@@ -28,13 +26,6 @@ readWord r room = word (unlessRefusal (readingNumbers r) (roomNumbers room messa
 abbrev pub readInto : Reading → List ℕ → List ℕ
 readInto (r.Read a m) out = copiedIn out 0 (laidBytes (partsOf a m))
 readInto (r.Refused number) out = out
-
--- a frame in 12 bytes: identifier low, identifier high, remote flag, count, eight data bytes
-abbrev pub frameSize : ℕ
-frameSize = 12
-
-abbrev pub frameBytes : Frame → List ℕ
-frameBytes f = f .identifier % 256 ∷ f .identifier / 256 % 256 ∷ f .remote % 256 ∷ f .bytes .0 % 256 ∷ bytesOf (f .bytes)
 
 -- the writer's own refusals, then 13
 abbrev pub writtenWord : Writing → ℕ → ℕ

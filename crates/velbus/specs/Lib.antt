@@ -2,3 +2,4 @@ pub mod Words
 pub mod Frames
 pub mod Recordings
 pub mod Statements
+pub mod Benches

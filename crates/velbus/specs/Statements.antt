@@ -7,7 +7,7 @@ use Rattle.laws.specs.Limits.{AllBytes}
 use Rattle.laws.specs.Copies.{copiedIn}
 use Rattle.frame.specs.Bytes.{dataBytes}
 use Rattle.judging.specs.Reading.{reading}
-use Rattle.codec.specs.Writing.{writing}
+use Rattle.codec.specs.Writing.{writing, frameBytes, frameSize}
 use Rattle.frame.specs.declared.messages.Reading.the-variants.{Read}
 use Rattle.codec.specs.declared.writer.Frame.{Frame}
 use Rattle.codec.specs.declared.writer.Writing.the-variants.{Written}
@@ -16,7 +16,7 @@ use Rattle.frame.specs.declared.messages.Message.{Message}
 use Rattle.layouts.specs.declared.parts.Held.the-variants.{Holds}
 use Rattle.layouts.specs.Parts.{noMessage, partsOf}
 use Rattle.layouts.specs.Layout.{messageSize, laidBytes, heldIn}
-use Rattle.velbus.specs.Frames.{frameBytes, frameSize, readWord, readInto, writeWord, writeInto}
+use Rattle.velbus.specs.Frames.{readWord, readInto, writeWord, writeInto}
 use Rattle.velbus.specs.Words.{roomWord}
 
 -- velbus_write gives just this frame, into the buffer `out`

@@ -1,8 +1,10 @@
 // Frames read into a lent message, and messages written into a lent frame.
 use crate::words::refused;
 use crate::words::room_word;
+use codec::FRAME_SIZE;
 use codec::Frame;
 use codec::Writing;
+use codec::frame_bytes;
 use codec::handed_refusal;
 use frame::Address;
 use frame::Message;
@@ -18,14 +20,12 @@ use layouts::parts_of;
 ghost use mathlib.Core.Path.{_≡_};
 ghost use lib.ListN.{length};
 ghost use Rattle.judging.specs.Reading.{reading};
-ghost use Rattle.codec.specs.Writing.{writing};
+ghost use Rattle.codec.specs.Writing.{writing, frameSize, frameBytes};
 ghost use Rattle.laws.specs.Copies.{copiedIn};
 ghost use Rattle.velbus.specs.Words.{roomWord};
 ghost use Rattle.layouts.specs.Parts.{partsOf};
 ghost use Rattle.layouts.specs.Layout.{messageSize, laidBytes, heldIn};
-ghost use Rattle.velbus.specs.Frames.{frameSize, frameBytes, readWord, readInto, writtenWord, writtenInto, heldWord, heldInto, writeWord, writeInto};
-
-const FRAME_SIZE: u16 = 12;
+ghost use Rattle.velbus.specs.Frames.{readWord, readInto, writtenWord, writtenInto, heldWord, heldInto, writeWord, writeInto};
 
 fn lay_message(message: &mut [u8], a: Address, m: Message) -> u32
     ensures { λ r. ⌜ r ≡ roomWord (length (now (message .entry))) messageSize ⌝ }
@@ -54,33 +54,12 @@ pub extern "C" fn velbus_read(
     }
 }
 
-// Identifier low, identifier high, remote flag, count, eight data bytes.
-fn bytes_of(f: Frame) -> [u8; 12]
-    ensures { λ r. ⌜ r ≡ frameBytes f ⌝ }
-{
-    let d = f.bytes;
-    [
-        (f.identifier % 256) as u8,
-        (f.identifier / 256 % 256) as u8,
-        (f.remote % 256) as u8,
-        (d.0 % 256) as u8,
-        d.1,
-        d.2,
-        d.3,
-        d.4,
-        d.5,
-        d.6,
-        d.7,
-        d.8,
-    ]
-}
-
 fn lay_frame(out: &mut [u8], f: Frame) -> u32
     ensures { λ r. ⌜ r ≡ roomWord (length (now (out .entry))) frameSize ⌝ }
     ensures { λ _. ⌜ now (out .exit) ≡ copiedIn (now (out .entry)) 0 (frameBytes f) ⌝ }
 {
     let room = out.len();
-    let bytes = bytes_of(f);
+    let bytes = frame_bytes(f);
     copy_in(out, 0, &bytes);
     room_word(room, FRAME_SIZE)
 }

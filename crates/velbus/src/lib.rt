@@ -1,4 +1,5 @@
 // The C interface: numbers and byte buffers in, one result word out.
+mod benches;
 mod frames;
 mod pictures;
 mod plans;

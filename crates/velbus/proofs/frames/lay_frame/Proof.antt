@@ -4,7 +4,7 @@ use Rattle.velbus.proofs.frames.lay_frame.Statement.{statement}
 use Rattle.velbus.proofs.frames.lay_frame.Tie as tie
 
 returns : tie.Need-returns
-returns c = (c .room-word .ensures, rw (← c .before .before .before .before .before .before .bytes-of .ensures) (c .before .before .before .copy-in .ensures))
+returns c = (c .room-word .ensures, rw (← c .before .before .before .before .before .before .frame-bytes .ensures) (c .before .before .before .copy-in .ensures))
 
 pub lay-frame-spec : {M : Type 1} → statement M
 lay-frame-spec =

@@ -1,0 +1,10 @@
+pub mod Agree
+pub mod Doing
+pub mod Answering
+pub mod Sent
+pub mod Commands
+pub mod Heard
+pub mod Told
+pub mod Dialogue
+pub mod Start
+pub mod Lesson

@@ -1,0 +1,55 @@
+// A bench module to teach on, in lent bytes.
+use crate::words::outcome_word;
+use crate::words::refused;
+use bench::Taken;
+ghost use mathlib.Core.Path.{_≡_};
+ghost use Rattle.bench.specs.Bench.{benchSize};
+ghost use Rattle.bench.specs.Taking.{making, taking};
+ghost use Rattle.velbus.specs.Words.{outcomeWord};
+ghost use Rattle.velbus.specs.Benches.{takenWord};
+
+fn taken_word(taken: Taken) -> u32
+    ensures { λ r. ⌜ r ≡ takenWord taken ⌝ }
+{
+    match taken {
+        Taken::Replies(count) => count as u32,
+        Taken::Refused(code) => refused(code),
+    }
+}
+
+#[no_mangle]
+pub extern "C" fn velbus_bench_size() -> u32
+    ensures { λ r. ⌜ r ≡ benchSize ⌝ }
+{
+    bench::bench_size()
+}
+
+#[no_mangle]
+pub extern "C" fn velbus_bench_new(
+    bench: &mut [u8],
+    address: u32,
+    cells: &[u8],
+    version: u8,
+    year: u8,
+    week: u8,
+) -> u32
+    ensures { λ r. ⌜ r ≡ outcomeWord (making (now (bench .entry)) address (now (cells .entry)) version year week .outcome) ⌝ }
+    ensures { λ _. ⌜ now (bench .exit) ≡ making (now (bench .entry)) address (now (cells .entry)) version year week .buffer ⌝ }
+{
+    outcome_word(bench::bench_new(bench, address, cells, version, year, week))
+}
+
+#[no_mangle]
+pub extern "C" fn velbus_bench_take(
+    bench: &mut [u8],
+    identifier: u32,
+    remote: u32,
+    data: &[u8],
+    out: &mut [u8],
+) -> u32
+    ensures { λ r. ⌜ r ≡ takenWord (taking (now (bench .entry)) identifier remote (now («data» .entry)) (now (out .entry)) .answer) ⌝ }
+    ensures { λ _. ⌜ now (bench .exit) ≡ taking (now (bench .entry)) identifier remote (now («data» .entry)) (now (out .entry)) .bench ⌝ }
+    ensures { λ _. ⌜ now (out .exit) ≡ taking (now (bench .entry)) identifier remote (now («data» .entry)) (now (out .entry)) .buffer ⌝ }
+{
+    taken_word(bench::bench_take(bench, identifier, remote, data, out))
+}
