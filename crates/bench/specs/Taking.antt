@@ -8,7 +8,7 @@ use lib.Seq.{sets}
 use Rattle.laws.specs.Refusals.{badIdentifier, sid0Set, badForm, badPriority, typeNotKnown, notListed, badField, codeAt, tooShort}
 use Rattle.laws.specs.Tests.{among}
 use Rattle.laws.specs.Answers.{Numbers, value, refusal}
-use Rattle.frame.specs.Types.{vmb8ir}
+use Rattle.types.specs.Types.{vmb8ir}
 use Rattle.frame.specs.Bytes.{byte}
 use Rattle.judging.specs.Reading.{reading}
 use Rattle.codec.specs.Writing.{writing, frameSize, frameBytes}

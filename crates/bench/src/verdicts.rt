@@ -1,10 +1,10 @@
 // What the bench makes of a frame, before it looks at the room for its replies.
 use frame::Message;
 use frame::Reading;
-use frame::VMB8IR;
 use frame::address_of;
 use laws::NOT_LISTED;
 use laws::byte_at;
+use types::VMB8IR;
 ghost use mathlib.Core.Path.{_≡_};
 ghost use mathlib.Core.Bool.{cond, _&&_};
 ghost use lib.Dec.{eqb};

@@ -7,11 +7,11 @@ use lib.ListN.{length}
 use Rattle.laws.specs.Limits.{AllBytes}
 use Rattle.laws.specs.Refusals.{badField, codeAt}
 use Rattle.laws.specs.Tests.{among}
-use Rattle.frame.specs.Identifiers.{low, identifierOf}
-use Rattle.frame.specs.Types.{handedTypes, rowFor, isListed}
+use Rattle.types.specs.Types.{low, handedTypes, rowFor, isListed}
+use Rattle.frame.specs.Identifiers.{identifierOf}
 use Rattle.frame.specs.Bytes.{byte, dataBytes}
 use Rattle.frame.specs.Messages.{typeCommand}
-use Rattle.frame.specs.Fields.{fault}
+use Rattle.fields.specs.Fields.{fault}
 use Rattle.judging.specs.Reading.{reading}
 use Rattle.codec.specs.Documented.{Documented}
 use Rattle.codec.specs.Writing.{writing}

@@ -6,12 +6,12 @@ use lib.Dec.{eqb}
 use Rattle.laws.specs.Refusals.{badType, typeNotKnown, notListed}
 use Rattle.laws.specs.Tests.{among, unless, unlessRefused}
 use Rattle.laws.specs.Answers.{Numbers, value, refusal}
-use Rattle.frame.specs.Identifiers.{low, identifierOf}
-use Rattle.frame.specs.Types.{noType, handedTypes, rowFor, isListed}
+use Rattle.types.specs.Types.{low, noType, handedTypes, rowFor, isListed}
+use Rattle.frame.specs.Identifiers.{identifierOf}
 use Rattle.frame.specs.Bytes.{dataOf, bytesOf}
 use Rattle.frame.specs.Messages.{typeCommand}
 use Rattle.codec.specs.Encoding.{encode}
-use Rattle.frame.specs.Fields.{fault, fieldRefusal}
+use Rattle.fields.specs.Fields.{fault, fieldRefusal}
 use Rattle.judging.specs.Reading.{ownType}
 use Rattle.frame.specs.declared.bytes.Data.{Data}
 use Rattle.frame.specs.declared.identifiers.Address.{Address}

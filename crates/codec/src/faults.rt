@@ -1,19 +1,19 @@
 // Which fields of a message are allowed, by the module's type: the rules that the reader goes by too.
+use fields::blind_status_fault;
+use fields::block_fault;
+use fields::buttons_fault;
+use fields::cell_fault;
+use fields::channel_fault;
+use fields::last_part_fault;
+use fields::name_asked_fault;
+use fields::status_asked_fault;
+use fields::stop_fault;
+use fields::timed_fault;
+use fields::type_short_fault;
 use frame::Command;
-use frame::blind_status_fault;
-use frame::block_fault;
-use frame::buttons_fault;
-use frame::cell_fault;
-use frame::channel_fault;
-use frame::last_part_fault;
-use frame::name_asked_fault;
-use frame::status_asked_fault;
-use frame::stop_fault;
-use frame::timed_fault;
-use frame::type_short_fault;
 use laws::wide32;
 ghost use mathlib.Core.Path.{_≡_};
-ghost use Rattle.frame.specs.Fields.{fault, fieldRefusal};
+ghost use Rattle.fields.specs.Fields.{fault, fieldRefusal};
 
 // 9 with the number of the first data byte at fault; 0 where every field is allowed.
 pub fn fault_of(kind: u32, m: Command) -> u16

@@ -10,11 +10,11 @@ use borrow.Author.Tests.{eqb-true, eq-eqb, ne-eqb, le-leb}
 use Rattle.laws.specs.Refusals.{badIdentifier, sid0Set, badForm, badPriority, badType, typeNotKnown, notListed, wrongLength, wrongPriority, badField, codeAt, tooShort}
 use Rattle.laws.specs.Tests.{among, unless, unlessRefused}
 use Rattle.laws.proofs.Testing.{not-both}
-use Rattle.frame.specs.Identifiers.{low, priorities, priorityOf, addressOf, elevenBits, sid0Clear, wellFormed}
-use Rattle.frame.specs.Types.{vmb8ir, noType, moduleTypes, isListed, rowFor}
+use Rattle.types.specs.Types.{low, priorities, vmb8ir, noType, moduleTypes, isListed, rowFor}
+use Rattle.frame.specs.Identifiers.{priorityOf, addressOf, elevenBits, sid0Clear, wellFormed}
 use Rattle.frame.specs.Bytes.{byte, dataOf}
 use Rattle.frame.specs.Messages.{typeCommand}
-use Rattle.frame.specs.Fields.{fault}
+use Rattle.fields.specs.Fields.{fault}
 use Rattle.frame.specs.declared.messages.Message.{Message}
 use Rattle.frame.specs.declared.messages.Message.the-variants.{TypeRequest, Tells}
 use Rattle.frame.specs.declared.messages.Reading.{Reading}

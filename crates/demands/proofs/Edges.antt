@@ -2,8 +2,8 @@
 use mathlib.Core.Path.{refl}
 use mathlib.Core.List.{reverse}
 use Rattle.laws.specs.Tab.{tab}
-use Rattle.frame.specs.Types.{lineOf, rowsOf, extentOf, positionIn, nameOf, blindOf}
-use Rattle.frame.specs.Fields.{buttonsAllowed, askedAllowed}
+use Rattle.types.specs.Types.{lineOf, rowsOf, extentOf, positionIn, nameOf, blindOf}
+use Rattle.fields.specs.Fields.{buttonsAllowed, askedAllowed}
 use Rattle.judging.specs.Reading.{reading, commandRead, requestRead}
 use Rattle.places.specs.Places.{firstCharacter, cellAsked, ledAsked, blindAsked, hasName}
 use Rattle.places.specs.Runs.{saidFrom, glowBy, meaningOf, meant, readAs}

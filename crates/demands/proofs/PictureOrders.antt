@@ -6,7 +6,7 @@ use mathlib.Core.Bool.{Bool, true, false, _||_, cond}
 use lib.Dec.{eqb, ltb}
 use borrow.Author.Tests.{eqb-true, eqb-false}
 use Rattle.laws.specs.Refusals.{noRoom, nothingKept, noSuchPlace, tooShort}
-use Rattle.frame.specs.Types.{longType, rowFor}
+use Rattle.types.specs.Types.{longType, rowFor}
 use Rattle.frame.specs.Bytes.{byte}
 use Rattle.frame.specs.Messages.{typeCommand}
 use Rattle.judging.specs.Reading.{reading}

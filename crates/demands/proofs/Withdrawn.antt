@@ -13,7 +13,7 @@ use Rattle.laws.proofs.Testing.{and-both}
 use Rattle.frame.specs.Bytes.{byte}
 use Rattle.frame.specs.Messages.{typeCommand}
 use Rattle.codec.specs.Encoding.{encode}
-use Rattle.frame.specs.Fields.{fault}
+use Rattle.fields.specs.Fields.{fault}
 use Rattle.places.specs.Runs.{commandOf}
 use Rattle.frame.specs.declared.messages.Message.{Message}
 use Rattle.frame.specs.declared.messages.Message.the-variants.{TypeRequest, Tells}

@@ -6,12 +6,12 @@ use lib.Dec.{eqb, ltb, leb}
 use lib.ListN.{length}
 use Rattle.laws.specs.Refusals.{badIdentifier, sid0Set, badForm, badPriority, badType, typeNotKnown, notListed, wrongLength, wrongPriority, badField, codeAt, noRoom, nothingKept, noSuchPlace, tooShort, badNumber}
 use Rattle.laws.specs.Tests.{among}
-use Rattle.frame.specs.Identifiers.{low, priorities, priorityOf, elevenBits, sid0Clear, wellFormed}
-use Rattle.frame.specs.Types.{noType, vmb8ir, moduleTypes, handedTypes, rowFor, isListed, extentOf}
+use Rattle.types.specs.Types.{low, priorities, noType, vmb8ir, moduleTypes, handedTypes, rowFor, isListed, extentOf}
+use Rattle.frame.specs.Identifiers.{priorityOf, elevenBits, sid0Clear, wellFormed}
 use Rattle.frame.specs.Bytes.{byte}
 use Rattle.frame.specs.Messages.{typeCommand}
 use Rattle.codec.specs.Encoding.{encode}
-use Rattle.frame.specs.Fields.{fault}
+use Rattle.fields.specs.Fields.{fault}
 use Rattle.frame.specs.declared.messages.Command.{Command}
 use Rattle.frame.specs.declared.messages.Message.{Message}
 use Rattle.frame.specs.declared.messages.Message.the-variants.{TypeRequest, Tells}

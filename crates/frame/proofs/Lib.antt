@@ -1,5 +1,1 @@
-pub mod Listed
-pub mod Positions
-pub mod Ones
-pub mod Codes
-pub mod Unions
+pub mod Commands

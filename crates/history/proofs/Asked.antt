@@ -10,7 +10,7 @@ use lib.ListN.{getD}
 use borrow.Author.Tests.{ltb-true, lt-ltb, leb-true}
 use Rattle.laws.specs.Tab.{tab}
 use Rattle.laws.proofs.Tab.{getD-tab, tab-ext}
-use Rattle.frame.specs.Types.{extentOf}
+use Rattle.types.specs.Types.{extentOf}
 use Rattle.places.specs.declared.answers.Answer.{Answer}
 use Rattle.places.specs.declared.answers.Answer.the-variants.{Value, NotHeard}
 use Rattle.places.specs.Limits.{room, addresses}

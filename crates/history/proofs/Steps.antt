@@ -11,7 +11,7 @@ use borrow.Author.Tests.{ltb-true, lt-ltb, ne-eqb}
 use Rattle.laws.specs.Refusals.{noRoom}
 use Rattle.laws.specs.Tab.{tab}
 use Rattle.laws.proofs.Tab.{getD-tab, tab-ext}
-use Rattle.frame.specs.Types.{noType}
+use Rattle.types.specs.Types.{noType}
 use Rattle.places.specs.Limits.{room, ring, addresses}
 use Rattle.places.specs.Runs.{Run, Saying, Meaning, refuses, names, enters}
 use Rattle.places.specs.Fitting.{Fits, FitsAs}

@@ -14,18 +14,17 @@ use borrow.Author.Tests.{eqb-true, eqb-false, eq-eqb, ne-eqb, le-leb}
 use Rattle.laws.specs.Tests.{among}
 use Rattle.laws.proofs.Keys.{every, for-both}
 use Rattle.laws.proofs.Testing.{not-both, and-both, or-right, nonzero, held}
-use Rattle.frame.specs.Identifiers.{low}
-use Rattle.frame.specs.Types.{Entry, Line, types, noLine, lineOf, allRows, rowsOf, find, rowFor, cellsOf, channelsOf}
+use Rattle.types.specs.Types.{low, Entry, Line, types, noLine, lineOf, allRows, rowsOf, find, rowFor, cellsOf, channelsOf}
 use Rattle.frame.specs.Bytes.{byte, dataOf, bytesOf}
 use Rattle.frame.specs.Messages.{typeCommand, locationIn, decode}
-use Rattle.frame.specs.Fields.{locationFault, channelAllowed, channelFault, lastPartFault, askedAllowed, nameAskedFault, fault}
+use Rattle.fields.specs.Fields.{locationFault, channelAllowed, channelFault, lastPartFault, askedAllowed, nameAskedFault, fault}
 use Rattle.judging.specs.Reading.{rowRefusal, commandRefusal, reading, readingNumber}
 use Rattle.frame.specs.declared.bytes.Data.{Data}
 use Rattle.frame.specs.declared.messages.Command.{Command}
 use Rattle.judging.proofs.Judged.{Framed, Listed, frame-holds, row-held, row-holds}
-use Rattle.frame.proofs.Listed.{listed-module, module-some, module-handed, row-size}
+use Rattle.types.proofs.Listed.{listed-module, module-some, module-handed, row-size}
 use Rattle.judging.proofs.Faults.{by-handed}
-use Rattle.frame.proofs.Unions.{some-asked}
+use Rattle.fields.proofs.Unions.{some-asked}
 use Rattle.judging.proofs.Numbers.{behind, command-number}
 
 -- a thing that types have some of, and a command of so many bytes that every type with some of it lists at low priority

@@ -13,10 +13,10 @@ use Rattle.laws.specs.Refusals.{badType, typeNotKnown, wrongLength}
 use Rattle.laws.specs.Tests.{among}
 use Rattle.laws.proofs.Keys.{NoneOf, not-among, for-any}
 use Rattle.laws.proofs.Testing.{or-right}
-use Rattle.frame.specs.Types.{noType, moduleTypes}
+use Rattle.types.specs.Types.{noType, moduleTypes}
 use Rattle.frame.specs.Bytes.{bytesOf}
 use Rattle.frame.specs.Messages.{Reader, readers, unlisted, typeCommand, decode}
-use Rattle.frame.specs.Fields.{fault, fieldRefusal}
+use Rattle.fields.specs.Fields.{fault, fieldRefusal}
 use Rattle.judging.specs.Reading.{byRow, rowRefusal, commandRefusal}
 use Rattle.frame.specs.declared.bytes.Data.{Data}
 use Rattle.frame.specs.declared.messages.Command.{Command}

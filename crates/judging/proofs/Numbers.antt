@@ -19,10 +19,10 @@ use borrow.Author.Tests.{eqb-true, eqb-false, eq-eqb, ne-eqb}
 use Rattle.laws.specs.Refusals.{notListed, wrongLength, wrongPriority}
 use Rattle.laws.specs.Tests.{unless, unlessRefused}
 use Rattle.frame.specs.Identifiers.{priorityOf, addressOf}
-use Rattle.frame.specs.Types.{rowFor, isListed}
+use Rattle.types.specs.Types.{rowFor, isListed}
 use Rattle.frame.specs.Bytes.{dataOf, bytesOf}
 use Rattle.frame.specs.Messages.{decode}
-use Rattle.frame.specs.Fields.{fieldRefusal}
+use Rattle.fields.specs.Fields.{fieldRefusal}
 use Rattle.judging.specs.Reading.{frameRefusal, byRow, commandRefusal, requestRefusal, requestRead, commandRead, reading, readingNumber}
 use Rattle.frame.specs.declared.bytes.Data.{Data}
 use Rattle.frame.specs.declared.identifiers.Address.{Address}

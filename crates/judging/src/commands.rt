@@ -1,24 +1,24 @@
 // A frame with data judged on its bytes: by its row in the type's list, then by its fields, whose rules the writer goes by too. A field is
 // read only where the length is the row's.
+use fields::blind_status_fault;
+use fields::block_fault;
+use fields::buttons_fault;
+use fields::cell_fault;
+use fields::channel_fault;
+use fields::last_part_fault;
+use fields::name_asked_fault;
+use fields::status_asked_fault;
+use fields::stop_fault;
+use fields::timed_fault;
+use fields::type_short_fault;
 use frame::Location;
 use frame::TYPE_FRAME;
 use frame::Time;
-use frame::blind_status_fault;
-use frame::block_fault;
-use frame::buttons_fault;
-use frame::cell_fault;
-use frame::channel_fault;
 use frame::has_long;
-use frame::last_part_fault;
 use frame::location_of;
-use frame::name_asked_fault;
 use frame::number24;
 use frame::row_for;
-use frame::status_asked_fault;
-use frame::stop_fault;
 use frame::time_of;
-use frame::timed_fault;
-use frame::type_short_fault;
 use laws::NOT_LISTED;
 use laws::WRONG_LENGTH;
 use laws::WRONG_PRIORITY;
@@ -28,7 +28,7 @@ ghost use mathlib.Core.Path.{_≡_};
 ghost use Prim.Native.Nat.{ℕ};
 ghost use Rattle.frame.specs.Bytes.{byte, dataOf, bytesOf};
 ghost use Rattle.frame.specs.Messages.{locationIn, timeIn, typeFrame, decode};
-ghost use Rattle.frame.specs.Fields.{fault, fieldRefusal};
+ghost use Rattle.fields.specs.Fields.{fault, fieldRefusal};
 ghost use Rattle.judging.specs.Reading.{byRow, rowRefusal};
 
 // What the command's row has against the frame, whatever its fields are: 6, 7, 8.

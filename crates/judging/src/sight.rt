@@ -1,22 +1,21 @@
 // The frames that a house is full of, taken at sight: of low priority, of the length and with the field that the type's extent allows. What
 // this does not take, the judge judges: `false` says nothing of a frame.
+use fields::channel_allowed;
+use fields::last_part_fault;
+use fields::name_asked_fault;
 use frame::LOW;
-use frame::channel_allowed;
-use frame::extent_of;
-use frame::last_part_fault;
 use frame::location_of;
-use frame::name_asked_fault;
 use laws::byte_at;
+use types::extent_of;
 ghost use mathlib.Core.Path.{_≡_};
 ghost use mathlib.Core.Bool.{true, false};
 ghost use Prim.Native.Nat.{_+_, _<_};
 ghost use lib.Dec.{eqb};
 ghost use lib.ListN.{length};
-ghost use Rattle.frame.specs.Identifiers.{low};
-ghost use Rattle.frame.specs.Types.{cellsOf};
+ghost use Rattle.types.specs.Types.{low, cellsOf};
 ghost use Rattle.frame.specs.Bytes.{byte, dataOf, bytesOf};
 ghost use Rattle.frame.specs.Messages.{typeCommand, locationIn, decode};
-ghost use Rattle.frame.specs.Fields.{channelAllowed, lastPartFault, nameAskedFault};
+ghost use Rattle.fields.specs.Fields.{channelAllowed, lastPartFault, nameAskedFault};
 ghost use Rattle.judging.specs.Reading.{rowRefusal, reading, readingNumber};
 
 // Of so many bytes, with a location at which the type has a cell, and so many more after it.

@@ -10,9 +10,9 @@ use Rattle.laws.specs.Limits.{AllBytes}
 use Rattle.laws.specs.Tests.{among}
 use Rattle.laws.specs.Refusals.{notListed}
 use Rattle.laws.proofs.Testing.{unrefused}
-use Rattle.frame.specs.Types.{vmb8ir, rowsOf}
+use Rattle.types.specs.Types.{vmb8ir, rowsOf}
 use Rattle.frame.specs.Bytes.{byte, dataOf, dataBytes}
-use Rattle.frame.specs.Fields.{fault}
+use Rattle.fields.specs.Fields.{fault}
 use Rattle.frame.specs.declared.identifiers.Address.{Address}
 use Rattle.frame.specs.declared.messages.Command.{Command}
 use Rattle.frame.specs.declared.messages.Command.the-variants.{TypeLong, TypeShort, Buttons, CellTold, BlockTold, CellAsked, BlockAsked, DumpAsked, CellSet, BlockSet, Errors, ErrorsAsked, NameOne, NameTwo, NameThree, NameAsked, StatusAsked, InputStatus, LedsAll, Leds, BlindStatus, BlindStop, BlindUp, BlindDown}

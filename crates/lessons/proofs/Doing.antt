@@ -13,8 +13,8 @@ use Rattle.laws.specs.Tab.{tab}
 use Rattle.laws.proofs.Tab.{length-tab}
 use Rattle.laws.specs.Tests.{unless}
 use Rattle.laws.proofs.Testing.{held}
-use Rattle.frame.specs.Types.{vmb8ir, lineOf}
-use Rattle.frame.specs.Fields.{fault, cellFault, blockFault}
+use Rattle.types.specs.Types.{vmb8ir, lineOf}
+use Rattle.fields.specs.Fields.{fault, cellFault, blockFault}
 use Rattle.frame.specs.declared.messages.Glow.{Glow}
 use Rattle.frame.specs.declared.messages.Glow.the-variants.{Off, On, Slow, Fast, VeryFast}
 use Rattle.frame.specs.declared.messages.Location.{Location}

@@ -19,7 +19,7 @@ use lib.ListN.{getD, length}
 use borrow.Author.Tests.{eqb-true, eq-eqb, ne-eqb, ltb-true}
 use Rattle.laws.proofs.Testing.{not-both}
 use Rattle.frame.specs.Identifiers.{addressOf}
-use Rattle.frame.specs.Types.{noType, rowFor, isListed}
+use Rattle.types.specs.Types.{noType, rowFor, isListed}
 use Rattle.frame.specs.Bytes.{byte, dataOf}
 use Rattle.frame.specs.Messages.{typeCommand, typeFrame}
 use Rattle.judging.specs.Reading.{reading, readingNumber}
@@ -27,7 +27,8 @@ use Rattle.frame.specs.declared.identifiers.Address.{Address}
 use Rattle.frame.specs.declared.messages.Message.the-variants.{Tells}
 use Rattle.frame.specs.declared.messages.Reading.the-variants.{Read}
 use Rattle.judging.proofs.Numbers.{refused-as, accepted-as}
-use Rattle.frame.proofs.Listed.{listed-module, type-sized}
+use Rattle.types.proofs.Listed.{listed-module}
+use Rattle.frame.proofs.Commands.{type-sized}
 use Rattle.places.specs.declared.answers.Outcome.{Outcome}
 use Rattle.places.specs.Limits.{room, busAddress}
 use Rattle.places.specs.Places.{places}

@@ -15,10 +15,11 @@ use lib.ListN.{getD, length}
 use borrow.Author.Tests.{eqb-true, eqb-false, eq-eqb, ne-eqb, leb-true, lt-ltb}
 use Rattle.laws.specs.Tests.{among}
 use Rattle.laws.proofs.Testing.{_&_, or-right}
-use Rattle.frame.specs.Types.{longType, shortType, rowFor, isListed}
+use Rattle.types.specs.Types.{longType, shortType, rowFor, isListed}
 use Rattle.frame.specs.Bytes.{byte}
 use Rattle.frame.specs.Messages.{typeCommand, typeFrame, readers, decode}
-use Rattle.frame.proofs.Listed.{everywhere, of-listed, type-shaped}
+use Rattle.types.proofs.Listed.{everywhere, of-listed}
+use Rattle.frame.proofs.Commands.{type-shaped}
 use Rattle.frame.specs.declared.messages.Command.{Command}
 use Rattle.frame.specs.declared.messages.Command.the-variants.{TypeLong, TypeShort}
 use Rattle.places.specs.Limits.{room}

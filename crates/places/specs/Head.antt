@@ -4,7 +4,7 @@ use mathlib.Core.Bool.{Bool, cond, _&&_}
 use mathlib.Core.List.{List}
 use lib.Dec.{eqb, ltb}
 use lib.ListN.{length, getD}
-use Rattle.frame.specs.Types.{noType}
+use Rattle.types.specs.Types.{noType}
 use Rattle.places.specs.Limits.{room, ring}
 use Rattle.places.specs.Layout.{countAt, keptAt, nextAt, depthAt, slotAt, recordAt, kindAt, size}
 

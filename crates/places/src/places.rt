@@ -1,12 +1,12 @@
 // The places of a module, one map for every type: build year, build week, LEDs, blinds, characters of names, cells. Where a type's names live in
 // its memory, a character and its cell are one place.
 use frame::Location;
-use frame::blind_of;
-use frame::extent_of;
-use frame::names_in_memory;
-use frame::up_bit;
 use laws::both;
 use laws::wide32;
+use types::blind_of;
+use types::extent_of;
+use types::names_in_memory;
+use types::up_bit;
 ghost use mathlib.Core.Path.{_≡_};
 ghost use mathlib.Core.Bool.{cond};
 ghost use Prim.Native.Nat.{_+_, _-_, _≤_};

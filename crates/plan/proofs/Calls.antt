@@ -14,7 +14,7 @@ use Rattle.laws.specs.Refusals.{typeNotKnown, tooShort}
 use Rattle.laws.specs.Limits.{AllBytes}
 use Rattle.laws.specs.Tab.{tab}
 use Rattle.laws.proofs.Tab.{length-tab, getD-tab, tab-ext}
-use Rattle.frame.specs.Types.{extentOf}
+use Rattle.types.specs.Types.{extentOf}
 use Rattle.places.specs.declared.answers.Answer.the-variants.{Value, NotHeard, Refused}
 use Rattle.places.specs.Limits.{room, notHeard}
 use Rattle.places.specs.Places.{places, cellPlace, cellAsked, cellRow}

@@ -6,7 +6,7 @@ use mathlib.Core.Logic.{_↔_}
 use mathlib.Core.List.{List, [], _∷_, _++_}
 use lib.ListN.{length, getD, take, drop}
 use Rattle.laws.specs.Limits.{AllBytes}
-use Rattle.frame.specs.Types.{cellsOf, lastStart}
+use Rattle.types.specs.Types.{cellsOf, lastStart}
 use Rattle.places.specs.declared.answers.Answer.the-variants.{Value, NotHeard}
 use Rattle.places.specs.Limits.{room}
 use Rattle.places.specs.Layout.{size}

@@ -9,9 +9,9 @@ use Rattle.laws.specs.Refusals.{badField, codeAt}
 use Rattle.laws.specs.Tests.{unless}
 use Rattle.laws.specs.Answers.{refusalIn}
 use Rattle.frame.specs.Identifiers.{identifierOf}
-use Rattle.frame.specs.Types.{rowFor}
+use Rattle.types.specs.Types.{rowFor}
 use Rattle.frame.specs.Bytes.{byte}
-use Rattle.frame.specs.Fields.{timeAllowed}
+use Rattle.fields.specs.Fields.{timeAllowed}
 use Rattle.judging.specs.Reading.{reading, readingNumber}
 use Rattle.codec.specs.Encoding.{encode}
 use Rattle.codec.specs.Statements.{OfRow}

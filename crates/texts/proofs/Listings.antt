@@ -16,7 +16,7 @@ use borrow.Author.Tests.{leb-true, leb-false}
 use Rattle.laws.proofs.Choices.{cond-elim}
 use Rattle.places.specs.declared.answers.Answer.{Answer}
 use Rattle.places.specs.declared.answers.Answer.the-variants.{Value, NotHeard, Refused}
-use Rattle.frame.specs.Types.{extentOf}
+use Rattle.types.specs.Types.{extentOf}
 use Rattle.places.specs.Limits.{addresses}
 use Rattle.places.specs.Places.{nameLength}
 use Rattle.questions.specs.Question.{type-of, name-row}

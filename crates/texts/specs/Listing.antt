@@ -10,7 +10,7 @@ use Rattle.places.specs.declared.answers.Answer.the-variants.{Value, NotHeard, 
 use Rattle.questions.specs.Question.{type-of}
 use Rattle.questions.specs.Replies.{reply}
 use Rattle.places.specs.Limits.{addresses}
-use Rattle.frame.specs.Types.{extentOf}
+use Rattle.types.specs.Types.{extentOf}
 use Rattle.recording.specs.declared.writes.Put.{Put}
 use Rattle.recording.specs.declared.writes.Put.the-variants as put
 use Rattle.replay.specs.declared.window.Stream.{Stream}

@@ -4,13 +4,13 @@ use crate::answers::answer;
 use crate::rows::NO_CALL;
 use crate::text::part;
 use crate::words::Reader;
-use frame::VMB1BL;
-use frame::VMB2BL;
-use frame::VMB8IR;
 use places::Answer;
 use places::Outcome;
 use questions::AddressAsked;
 use questions::LocationAsked;
+use types::VMB1BL;
+use types::VMB2BL;
+use types::VMB8IR;
 
 fn refusal(o: Outcome) -> u16 {
     match o {

@@ -4,7 +4,7 @@ use Prim.Native.Nat.{_+_}
 use native.Mathlib.Omega.{arith}
 use borrow.Author.Tests.{ltb-true}
 use Rattle.laws.proofs.Testing.{not-both}
-use Rattle.frame.specs.Types.{extentOf}
+use Rattle.types.specs.Types.{extentOf}
 use borrow.Author.Needs.{needs}
 use Rattle.judging.proofs.sight.cells_fit.Statement.{statement}
 use Rattle.judging.proofs.sight.cells_fit.Tie as tie

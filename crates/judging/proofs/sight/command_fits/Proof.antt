@@ -3,7 +3,7 @@
 use native.Mathlib.Omega.{arith}
 use mathlib.Core.Path.{refl}
 use Rattle.laws.proofs.Testing.{not-both}
-use Rattle.frame.specs.Types.{extentOf}
+use Rattle.types.specs.Types.{extentOf}
 use Rattle.judging.proofs.AtSight.{on-cells, on-channel, on-last-part, on-asked, on-free}
 use borrow.Author.Needs.{needs}
 use Rattle.judging.proofs.sight.command_fits.Statement.{statement}

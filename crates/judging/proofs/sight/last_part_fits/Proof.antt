@@ -3,7 +3,7 @@
 use mathlib.Core.Path.{sym, _∙_}
 use borrow.Author.Tests.{eqb-true}
 use Rattle.laws.proofs.Testing.{not-both}
-use Rattle.frame.proofs.Codes.{untold}
+use Rattle.fields.proofs.Codes.{untold}
 use borrow.Author.Needs.{needs}
 use Rattle.judging.proofs.sight.last_part_fits.Statement.{statement}
 use Rattle.judging.proofs.sight.last_part_fits.Tie as tie

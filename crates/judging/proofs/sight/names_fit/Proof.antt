@@ -3,8 +3,8 @@
 use mathlib.Core.Path.{refl, sym, _∙_}
 use borrow.Author.Tests.{eqb-true}
 use Rattle.laws.proofs.Testing.{not-both}
-use Rattle.frame.proofs.Unions.{asked-one}
-use Rattle.frame.proofs.Codes.{untold}
+use Rattle.fields.proofs.Unions.{asked-one}
+use Rattle.fields.proofs.Codes.{untold}
 use borrow.Author.Needs.{needs}
 use Rattle.judging.proofs.sight.names_fit.Statement.{statement}
 use Rattle.judging.proofs.sight.names_fit.Tie as tie

@@ -3,7 +3,7 @@ use Prim.Native.Nat.{ℕ}
 use mathlib.Core.Path.{_≡_, refl, ap}
 use mathlib.Core.List.{List}
 use borrow.Author.Needs.{needs}
-use Rattle.frame.specs.Types.{noType}
+use Rattle.types.specs.Types.{noType}
 use Rattle.frame.specs.declared.identifiers.Address.{Address}
 use Rattle.places.specs.Head.{noSlot, kindIn}
 use Rattle.picture.specs.Hearing.{naming}

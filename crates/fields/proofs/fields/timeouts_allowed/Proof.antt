@@ -1,0 +1,24 @@
+-- `fields::fields::timeouts_allowed` meets its contract.
+-- Assumes nothing.
+use Rattle.types.proofs.Listed.{other-line}
+use Rattle.types.specs.Types.{lineOf, blindsOf}
+use Rattle.fields.proofs.fields.timeouts_allowed.Statement.{statement}
+use Rattle.fields.proofs.fields.timeouts_allowed.Tie as tie
+
+returns : tie.Need-returns
+unfolding lineOf
+returns c = rw (c .match .keys1)
+
+returns-2 : tie.Need-returns-2
+unfolding lineOf
+returns-2 c = rw (c .match .keys2)
+
+returns-3 : tie.Need-returns-3
+unfolding lineOf
+returns-3 c = rw (c .match .keys3)
+
+returns-4 : tie.Need-returns-4
+returns-4 c = rw (other-line (c .before .args .kind) (c .match .rest), blindsOf)
+
+pub timeouts-allowed-spec : {M : Type 1} → statement M
+timeouts-allowed-spec = tie.close (tie.spec returns returns-2 returns-3 returns-4)

@@ -1,0 +1,3 @@
+-- Read in this order.
+pub mod Bits
+pub mod Types
