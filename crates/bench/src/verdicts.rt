@@ -105,6 +105,6 @@ pub(crate) fn judge(address: u8, identifier: u32, remote: u32, data: &[u8]) -> V
 {
     let own = is_own(identifier, address);
     let sent = backwards(remote, byte_at(data, 0));
-    let r = codec::read(VMB8IR, identifier, remote, data);
+    let r = reader::read(VMB8IR, identifier, remote, data);
     judge_by(r, own, sent)
 }

@@ -1,11 +1,8 @@
-// Velbus frames read as messages, and messages written as frames.
-mod decoding;
+// Messages written as Velbus frames, and what reading and writing make of each other.
 mod encoding;
 mod faults;
-mod reader;
 mod writer;
 
-pub use reader::read;
 pub use writer::FRAME_SIZE;
 pub use writer::Frame;
 pub use writer::Writing;

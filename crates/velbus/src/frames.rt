@@ -48,7 +48,7 @@ pub extern "C" fn velbus_read(
     ensures { λ r. ⌜ r ≡ readWord (reading kind identifier remote (now («data» .entry))) (length (now (message .entry))) ⌝ }
     ensures { λ _. ⌜ now (message .exit) ≡ readInto (reading kind identifier remote (now («data» .entry))) (now (message .entry)) ⌝ }
 {
-    match codec::read(kind, identifier, remote, data) {
+    match reader::read(kind, identifier, remote, data) {
         Reading::Read(a, m) => lay_message(message, a, m),
         Reading::Refused(code) => refused(code),
     }

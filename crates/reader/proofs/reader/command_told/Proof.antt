@@ -1,8 +1,8 @@
--- `codec::reader::command_told` meets its contract.
+-- `reader::reader::command_told` meets its contract.
 -- Assumes nothing.
 use borrow.Author.Needs.{needs}
-use Rattle.codec.proofs.reader.command_told.Statement.{statement}
-use Rattle.codec.proofs.reader.command_told.Tie as tie
+use Rattle.reader.proofs.reader.command_told.Statement.{statement}
+use Rattle.reader.proofs.reader.command_told.Tie as tie
 
 returns : tie.Need-returns
 returns c = rw (c .decoded .ensures, c .before .gathered .ensures)

@@ -1,10 +1,10 @@
--- `codec::reader::read` meets its contract.
+-- `reader::reader::read` meets its contract.
 -- Assumes nothing.
 use native.Mathlib.Omega.{arith}
 use Rattle.judging.proofs.Numbers.{refused-as, read-request, read-told}
 use borrow.Author.Needs.{needs}
-use Rattle.codec.proofs.reader.read.Statement.{statement}
-use Rattle.codec.proofs.reader.read.Tie as tie
+use Rattle.reader.proofs.reader.read.Statement.{statement}
+use Rattle.reader.proofs.reader.read.Tie as tie
 
 returns : tie.Need-returns
 returns c = refused-as _ (c .before .judge .ensures) (omega arith)

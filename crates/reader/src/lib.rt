@@ -1,0 +1,5 @@
+// Velbus frames read as messages.
+mod decoding;
+mod reader;
+
+pub use reader::read;
