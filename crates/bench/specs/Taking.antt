@@ -19,9 +19,9 @@ use Rattle.frame.specs.declared.messages.Message.{Message}
 use Rattle.frame.specs.declared.messages.Message.the-variants.{Tells}
 use Rattle.frame.specs.declared.messages.Reading.{Reading}
 use Rattle.frame.specs.declared.messages.Reading.the-variants.{Read, Refused}
-use Rattle.places.specs.Limits.{addresses, busAddress}
-use Rattle.places.specs.Result.{Result}
-use Rattle.places.specs.Result as result
+use Rattle.shape.specs.Limits.{addresses, busAddress}
+use Rattle.shape.specs.Result.{Result}
+use Rattle.shape.specs.Result as result
 use Rattle.bench.specs.Bench.{benchSize, namedCells, ownAddress, newBench, done, replies}
 use Rattle.bench.specs.declared.verdicts.Verdict.{Verdict}
 use Rattle.bench.specs.declared.verdicts.Verdict.the-variants.{Takes, Silent, Refuses}

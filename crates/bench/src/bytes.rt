@@ -1,6 +1,6 @@
 // Bytes stored into a buffer. Past its end nothing is stored.
 use laws::byte_at;
-use places::put_at;
+use shape::put_at;
 ghost use mathlib.Core.Path.{_≡_};
 ghost use Prim.Native.Nat.{_≤_};
 ghost use lib.ListN.{length};

@@ -5,7 +5,7 @@ use laws::byte_at;
 use picture::leds_by;
 use places::LEDS;
 use places::glow_number;
-use places::put_at;
+use shape::put_at;
 ghost use mathlib.Core.Path.{_≡_};
 ghost use mathlib.Core.Bool.{cond};
 ghost use mathlib.Core.List.{[], _∷_};

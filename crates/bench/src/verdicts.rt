@@ -10,7 +10,7 @@ ghost use mathlib.Core.Bool.{cond, _&&_};
 ghost use lib.Dec.{eqb};
 ghost use Rattle.laws.specs.Refusals.{notListed};
 ghost use Rattle.laws.specs.Tests.{among};
-ghost use Rattle.places.specs.Limits.{busAddress};
+ghost use Rattle.shape.specs.Limits.{busAddress};
 ghost use Rattle.bench.specs.Taking.{firstRefusals, sentOnly, judgedIf, judged};
 ghost use Rattle.bench.specs.declared.verdicts.Verdict.the-variants.{Silent, Refuses};
 

@@ -20,7 +20,7 @@ use Rattle.frame.specs.declared.messages.Message.the-variants.{TypeRequest, Tel
 use Rattle.frame.specs.declared.messages.Reading.{Reading}
 use Rattle.frame.specs.declared.messages.Reading.the-variants.{Read, Refused}
 use Rattle.judging.specs.Reading.{rowRefusal, commandRefusal, requestRefusal, commandRead, requestRead, reading}
-use Rattle.places.specs.Limits.{addresses, busAddress}
+use Rattle.shape.specs.Limits.{addresses, busAddress}
 use Rattle.places.specs.Runs.{commandOf}
 use Rattle.bench.specs.Bench.{benchSize, namedCells, ownAddress, done, replies}
 use Rattle.bench.specs.Taking.{firstRefusals, sentOnly, judgedIf, judged, Outcome, kept, takenWith, given, outcomeOf, making, taking}

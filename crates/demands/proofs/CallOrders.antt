@@ -19,10 +19,10 @@ use Rattle.frame.specs.declared.messages.Reading.{Reading}
 use Rattle.frame.specs.declared.messages.Reading.the-variants as reader
 use Rattle.codec.specs.declared.writer.Writing.{Writing}
 use Rattle.codec.specs.declared.writer.Writing.the-variants as writer
-use Rattle.places.specs.declared.answers.Outcome.{Outcome}
-use Rattle.places.specs.declared.answers.Outcome.the-variants as outcome
-use Rattle.places.specs.declared.answers.Answer.{Answer}
-use Rattle.places.specs.declared.answers.Answer.the-variants as answer
+use Rattle.shape.specs.declared.answers.Outcome.{Outcome}
+use Rattle.shape.specs.declared.answers.Outcome.the-variants as outcome
+use Rattle.shape.specs.declared.answers.Answer.{Answer}
+use Rattle.shape.specs.declared.answers.Answer.the-variants as answer
 use Rattle.recording.specs.declared.writes.Put.{Put}
 use Rattle.recording.specs.declared.writes.Put.the-variants as put
 use Rattle.recording.specs.Write.{inRange, recordBytes, putCase, placed, putAnswer, putBytes}

@@ -10,7 +10,7 @@ use Rattle.codec.proofs.Accepted.{every-row, every-request}
 use Rattle.codec.proofs.Everything.{every-frame}
 use Rattle.codec.proofs.RoundTrip.{read-then-written, written-then-read, one-frame}
 use Rattle.repair.proofs.Beyond.{first-beyond-repair}
-use Rattle.places.specs.Limits.{addresses}
+use Rattle.shape.specs.Limits.{addresses}
 use Rattle.history.proofs.Speaks.{names-numbered, blinds-numbered, speaks-of}
 use Rattle.history.proofs.InMemory.{in-memory}
 use Rattle.places.proofs.Fitting.{runs-lie, runs-fit}

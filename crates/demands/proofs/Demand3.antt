@@ -4,9 +4,9 @@ use native.Mathlib.Omega.{arith}
 use mathlib.Core.Path.{_≡_, refl, ap, _∙_}
 use mathlib.Core.List.{List, map}
 use lib.ListN.{length, take, drop}
-use Rattle.places.specs.declared.answers.Outcome.{Outcome}
-use Rattle.places.specs.declared.answers.Outcome.the-variants.{Done, Refused}
-use Rattle.places.specs.Layout.{size}
+use Rattle.shape.specs.declared.answers.Outcome.{Outcome}
+use Rattle.shape.specs.declared.answers.Outcome.the-variants.{Done, Refused}
+use Rattle.shape.specs.Layout.{size}
 use Rattle.picture.specs.Hearing.{hearing}
 use Rattle.history.specs.Standing.{Frame, Event, hear, back, deepest, kept, outcomeOf, granted, answered}
 use Rattle.history.specs.Demand3.{doing, runsBytes}

@@ -12,7 +12,7 @@ use lib.Dec.{leb}
 use borrow.Author.Tests.{leb-true, ne-eqb}
 use Rattle.laws.specs.Tests.{unless, unlessRefused}
 use Rattle.laws.proofs.Testing.{and-both}
-use Rattle.places.specs.Result.{Result, refusing, done}
+use Rattle.shape.specs.Result.{Result, refusing, done}
 use Rattle.questions.specs.Question as question
 use Rattle.questions.specs.Question.{Reply}
 use Rattle.demands.specs.Order.{Test, _or_, Verdict, answers, refuses, verdict}

@@ -12,12 +12,12 @@ use Rattle.frame.specs.Messages.{typeCommand}
 use Rattle.judging.specs.Reading.{reading}
 use Rattle.frame.specs.declared.messages.Command.the-variants.{TypeLong, TypeShort}
 use Rattle.frame.specs.declared.messages.Reading.{Reading}
-use Rattle.places.specs.declared.answers.Outcome.{Outcome}
-use Rattle.places.specs.declared.answers.Outcome.the-variants as outcome
-use Rattle.places.specs.Limits.{room, mostDepth, busAddress}
+use Rattle.shape.specs.declared.answers.Outcome.{Outcome}
+use Rattle.shape.specs.declared.answers.Outcome.the-variants as outcome
+use Rattle.shape.specs.Limits.{room, mostDepth, busAddress}
 use Rattle.places.specs.Runs.{Run, meaningOf, meant, readAs, commandOf}
-use Rattle.places.specs.Result.{Result, refusing, done}
-use Rattle.places.specs.Head.{short, modulesOf, keptOf, kindIn}
+use Rattle.shape.specs.Result.{Result, refusing, done}
+use Rattle.shape.specs.Head.{short, modulesOf, keptOf, kindIn}
 use Rattle.picture.specs.Hearing.{naming, exchangedBytes, enteredBytes, entering, hearingAs, hearingAt, hearing}
 use Rattle.picture.specs.Stepping.{steppingBack}
 use Rattle.steering.specs.Fresh.{freshBytes, fresheningWith, freshening}

@@ -16,13 +16,13 @@ use Rattle.types.specs.Types.{cellsOf, extentOf}
 use Rattle.frame.specs.declared.messages.Command.{Command}
 use Rattle.frame.specs.declared.messages.Command.the-variants.{BlockTold}
 use Rattle.frame.specs.declared.messages.Message.the-variants.{Tells}
-use Rattle.places.specs.declared.answers.Answer.{Answer}
-use Rattle.places.specs.declared.answers.Answer.the-variants.{Value, NotHeard, Refused}
-use Rattle.places.specs.declared.answers.Outcome.the-variants.{Done}
-use Rattle.places.specs.Limits.{room}
+use Rattle.shape.specs.declared.answers.Answer.{Answer}
+use Rattle.shape.specs.declared.answers.Answer.the-variants.{Value, NotHeard, Refused}
+use Rattle.shape.specs.declared.answers.Outcome.the-variants.{Done}
+use Rattle.shape.specs.Limits.{room}
 use Rattle.places.specs.Places.{cellPlace}
-use Rattle.places.specs.Layout.{size}
-use Rattle.places.specs.Head.{short, kindIn}
+use Rattle.shape.specs.Layout.{size}
+use Rattle.shape.specs.Head.{short, kindIn}
 use Rattle.places.specs.Runs.{Saying, tells, Run, said, telling, meaningOf, meant}
 use Rattle.questions.specs.Question.{type-of, cell, Reply, value, refusing}
 use Rattle.questions.specs.Replies.{slotAsked, replyAs, replyIn, reply}

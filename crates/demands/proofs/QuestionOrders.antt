@@ -7,11 +7,11 @@ use lib.Dec.{eqb, ltb, leb}
 use lib.ListN.{length, getD}
 use Rattle.laws.specs.Refusals.{typeNotKnown, noSuchPlace, tooShort}
 use Rattle.types.specs.Types.{extentOf}
-use Rattle.places.specs.declared.answers.Answer.the-variants.{Value, NotHeard, Refused}
-use Rattle.places.specs.Limits.{room, addresses}
+use Rattle.shape.specs.declared.answers.Answer.the-variants.{Value, NotHeard, Refused}
+use Rattle.shape.specs.Limits.{room, addresses}
 use Rattle.places.specs.Places.{places, nameLength, yearPlace, weekPlace, cellAsked, ledAsked, blindAsked, hasName, nameRow, cellRow}
-use Rattle.places.specs.Layout.{placeAt}
-use Rattle.places.specs.Head.{short, kindIn}
+use Rattle.shape.specs.Layout.{placeAt}
+use Rattle.shape.specs.Head.{short, kindIn}
 use Rattle.questions.specs.Question.{Question, type-of, build-year, build-week, cell, led, blind, name-row, name-bytes, memory-row, memory-bytes, Reply, answering, value}
 use Rattle.questions.specs.Fills.{filledTo, filling, valueAt, rowNumber, lowFirst, numbersFill, bytesFill, heardIn}
 use Rattle.questions.specs.Replies.{slotAsked, answerAt, placeReply, replyAs, replyIn, reply, keptAnswer, listedIf, listing}

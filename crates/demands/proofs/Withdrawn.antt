@@ -17,7 +17,7 @@ use Rattle.fields.specs.Fields.{fault}
 use Rattle.places.specs.Runs.{commandOf}
 use Rattle.frame.specs.declared.messages.Message.{Message}
 use Rattle.frame.specs.declared.messages.Message.the-variants.{TypeRequest, Tells}
-use Rattle.places.specs.Head.{kindIn}
+use Rattle.shape.specs.Head.{kindIn}
 use Rattle.questions.specs.Question.{Question, type-of, build-year, build-week, cell, led, blind, name-row, name-bytes, memory-row, memory-bytes}
 use Rattle.questions.specs.Replies.{slotAsked}
 use Rattle.recording.proofs.Entries.{faults-are-placed}

@@ -14,11 +14,11 @@ use Rattle.frame.specs.declared.identifiers.Address.{Address}
 use Rattle.frame.specs.declared.messages.Message.{Message}
 use Rattle.frame.specs.declared.messages.Reading.{Reading}
 use Rattle.codec.specs.declared.writer.Writing.{Writing}
-use Rattle.places.specs.declared.answers.Outcome.{Outcome}
-use Rattle.places.specs.declared.answers.Answer.{Answer}
-use Rattle.places.specs.declared.answers.Answer.the-variants as answer
-use Rattle.places.specs.Answers.{outcomeNumbers, answerNumbers}
-use Rattle.places.specs.Result.{Result}
+use Rattle.shape.specs.declared.answers.Outcome.{Outcome}
+use Rattle.shape.specs.declared.answers.Answer.{Answer}
+use Rattle.shape.specs.declared.answers.Answer.the-variants as answer
+use Rattle.shape.specs.Answers.{outcomeNumbers, answerNumbers}
+use Rattle.shape.specs.Result.{Result}
 use Rattle.picture.specs.Hearing.{hearing}
 use Rattle.picture.specs.Stepping.{steppingBack}
 use Rattle.steering.specs.Fresh.{fresheningWith, freshening}

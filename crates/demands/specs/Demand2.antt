@@ -12,7 +12,7 @@ use Rattle.frame.specs.declared.messages.Message.{Message}
 use Rattle.frame.specs.declared.messages.Reading.the-variants.{Read}
 use Rattle.codec.specs.declared.writer.Frame.{Frame}
 use Rattle.codec.specs.declared.writer.Writing.the-variants.{Written}
-use Rattle.places.specs.Limits.{addresses}
+use Rattle.shape.specs.Limits.{addresses}
 use Rattle.places.specs.Fitting.{RunsLie, RunsFit}
 use Rattle.places.specs.Apart.{Apart, Inside}
 use Rattle.history.specs.Speaks.{NamesNumbered, BlindsNumbered, SpeaksOf}

@@ -5,9 +5,9 @@ use mathlib.Core.Path.{_≡_}
 use mathlib.Core.List.{List, [], _∷_, map}
 use lib.ListN.{length, take, drop}
 use Rattle.laws.specs.Refusals.{nothingKept}
-use Rattle.places.specs.declared.answers.Outcome.{Outcome}
-use Rattle.places.specs.declared.answers.Outcome.the-variants.{Done, Refused}
-use Rattle.places.specs.Layout.{size}
+use Rattle.shape.specs.declared.answers.Outcome.{Outcome}
+use Rattle.shape.specs.declared.answers.Outcome.the-variants.{Done, Refused}
+use Rattle.shape.specs.Layout.{size}
 use Rattle.history.specs.Standing.{Frame, Event, hear, back, deepest, kept}
 use Rattle.history.specs.Names.{WholeIsSixteen}
 use Rattle.history.specs.Demand3.{Demand3 as ShowsStanding, doing, runBytes, runsBytes, InOrder, ListedIs}

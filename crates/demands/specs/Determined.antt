@@ -6,7 +6,7 @@ use lib.ListN.{length, set}
 use Rattle.laws.specs.Copies.{copiedIn}
 use Rattle.laws.specs.Promises.{OneAnswer, OneResult, OneOutcome, NoChoice}
 use Rattle.judging.specs.Reading.{reading}
-use Rattle.places.specs.Result.{Result}
+use Rattle.shape.specs.Result.{Result}
 use Rattle.picture.specs.Hearing.{hearing}
 use Rattle.picture.specs.Stepping.{steppingBack}
 use Rattle.steering.specs.Fresh.{fresheningWith, freshening}

@@ -14,12 +14,12 @@ use Rattle.frame.specs.declared.messages.Command.the-variants.{TypeShort, Butto
 use Rattle.frame.specs.declared.messages.Message.the-variants.{TypeRequest, Tells}
 use Rattle.frame.specs.declared.messages.Reading.{Reading}
 use Rattle.frame.specs.declared.messages.Reading.the-variants.{Read, Refused}
-use Rattle.places.specs.declared.answers.Answer.{Answer}
-use Rattle.places.specs.declared.answers.Answer.the-variants.{Value, NotHeard}
-use Rattle.places.specs.declared.answers.Answer.the-variants as answer
-use Rattle.places.specs.declared.answers.Outcome.{Outcome}
-use Rattle.places.specs.declared.answers.Outcome.the-variants as outcome
-use Rattle.places.specs.Layout.{size}
+use Rattle.shape.specs.declared.answers.Answer.{Answer}
+use Rattle.shape.specs.declared.answers.Answer.the-variants.{Value, NotHeard}
+use Rattle.shape.specs.declared.answers.Answer.the-variants as answer
+use Rattle.shape.specs.declared.answers.Outcome.{Outcome}
+use Rattle.shape.specs.declared.answers.Outcome.the-variants as outcome
+use Rattle.shape.specs.Layout.{size}
 use Rattle.questions.specs.Question.{Question, cell, led, blind, name-row, Reply, value, refusing}
 use Rattle.questions.specs.Replies.{reply}
 use Rattle.history.specs.Standing.{Event, back, deepest, outcomeOf, answered}

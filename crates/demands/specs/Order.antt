@@ -15,10 +15,10 @@ use Rattle.fields.specs.Fields.{fault}
 use Rattle.frame.specs.declared.messages.Command.{Command}
 use Rattle.frame.specs.declared.messages.Message.{Message}
 use Rattle.frame.specs.declared.messages.Message.the-variants.{TypeRequest, Tells}
-use Rattle.places.specs.Limits.{room, addresses, busAddress}
+use Rattle.shape.specs.Limits.{room, addresses, busAddress}
 use Rattle.places.specs.Places.{places, nameLength, yearPlace, weekPlace, cellAsked, ledAsked, blindAsked, hasName}
 use Rattle.places.specs.Runs.{commandOf}
-use Rattle.places.specs.Head.{short, modulesOf, keptOf, slotOf, kindIn}
+use Rattle.shape.specs.Head.{short, modulesOf, keptOf, slotOf, kindIn}
 use Rattle.questions.specs.Question.{Question, type-of, build-year, build-week, cell, led, blind, name-row, name-bytes, memory-row, memory-bytes}
 use Rattle.questions.specs.Replies.{slotAsked}
 use Rattle.history.specs.Standing.{deepest}

@@ -8,9 +8,9 @@ use lib.ListN.{length, take}
 use Rattle.laws.specs.Limits.{AllBytes}
 use Rattle.types.specs.Types.{cellsOf}
 use Rattle.frame.specs.declared.messages.Command.the-variants.{BlockTold}
-use Rattle.places.specs.declared.answers.Answer.the-variants.{Value}
-use Rattle.places.specs.declared.answers.Outcome.the-variants.{Done}
-use Rattle.places.specs.Layout.{size}
+use Rattle.shape.specs.declared.answers.Answer.the-variants.{Value}
+use Rattle.shape.specs.declared.answers.Outcome.the-variants.{Done}
+use Rattle.shape.specs.Layout.{size}
 use Rattle.questions.specs.Question.{type-of, cell}
 use Rattle.questions.specs.Replies.{reply}
 use Rattle.history.specs.Standing.{Frame, address, Event, hear, deepest}

@@ -11,12 +11,12 @@ use borrow.Author.Tests.{ltb-true, lt-ltb, leb-true}
 use Rattle.laws.specs.Tab.{tab}
 use Rattle.laws.proofs.Tab.{getD-tab, tab-ext}
 use Rattle.types.specs.Types.{extentOf}
-use Rattle.places.specs.declared.answers.Answer.{Answer}
-use Rattle.places.specs.declared.answers.Answer.the-variants.{Value, NotHeard}
-use Rattle.places.specs.Limits.{room, addresses}
+use Rattle.shape.specs.declared.answers.Answer.{Answer}
+use Rattle.shape.specs.declared.answers.Answer.the-variants.{Value, NotHeard}
+use Rattle.shape.specs.Limits.{room, addresses}
 use Rattle.places.specs.Places.{places, nowhere, yearPlace, weekPlace, ledPlace, blindPlace, characterPlace, cellPlace, cellAsked, ledAsked, blindAsked, hasName, Row, nameRow, cellRow}
-use Rattle.places.specs.Layout.{placeAt}
-use Rattle.places.specs.Head.{noSlot, slotOf, kindIn}
+use Rattle.shape.specs.Layout.{placeAt}
+use Rattle.shape.specs.Head.{noSlot, slotOf, kindIn}
 use Rattle.places.proofs.Fitting.{extents-small, first-small}
 use Rattle.questions.specs.Question.{Question, type-of, build-year, build-week, cell, led, blind, name-row, name-bytes, memory-row, memory-bytes, Reply, answering}
 use Rattle.questions.specs.Fills.{valueAt, heardAt, rowNumber, lowFirst as byteOf, numbersFill, bytesFill, sumTo, heardIn}

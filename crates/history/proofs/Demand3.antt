@@ -9,10 +9,10 @@ use lib.ListN.{getD, length, length-set}
 use lib.Seq.{getD-set-same, getD-set-other}
 use borrow.Author.Tests.{le-ltb}
 use Rattle.laws.specs.Tab.{tab}
-use Rattle.places.specs.declared.answers.Answer.the-variants.{Value}
-use Rattle.places.specs.Layout.{countAt, keptAt, depthAt, headSize, size}
-use Rattle.places.specs.Limits.{mostDepth}
-use Rattle.places.specs.Head.{modulesOf, keptOf, depthOf}
+use Rattle.shape.specs.declared.answers.Answer.the-variants.{Value}
+use Rattle.shape.specs.Layout.{countAt, keptAt, depthAt, headSize, size}
+use Rattle.shape.specs.Limits.{mostDepth}
+use Rattle.shape.specs.Head.{modulesOf, keptOf, depthOf}
 use Rattle.steering.specs.Fresh.{zeroed, freshBytes, fresheningWith}
 use Rattle.questions.specs.Replies.{keptAnswer}
 use Rattle.history.specs.Standing.{outcomeOf, Event, deepest, standing, kept}

@@ -6,9 +6,9 @@ use mathlib.Core.List.{List, [], _∷_, _++_}
 use lib.ListN.{length}
 use borrow.Author.Tests.{lt-ltb, le-ltb}
 use Rattle.laws.specs.Refusals.{nothingKept}
-use Rattle.places.specs.Limits.{mostDepth}
-use Rattle.places.specs.Layout.{size}
-use Rattle.places.specs.declared.answers.Outcome.the-variants.{Refused}
+use Rattle.shape.specs.Limits.{mostDepth}
+use Rattle.shape.specs.Layout.{size}
+use Rattle.shape.specs.declared.answers.Outcome.the-variants.{Refused}
 use Rattle.steering.specs.Fresh.{fresheningWith, freshening}
 use Rattle.history.specs.Standing.{Frame, Judgement, refused, accepted, exchanged, judgement, outcomeOf, Event, hear, back, stands, struck, counted, standing, kept, granted, answered}
 use Rattle.history.specs.Depth.{DepthsNamed, KeptToDepth, StillStands, NoneAtZero}

@@ -11,10 +11,10 @@ use borrow.Author.Tests.{ne-eqb, lt-ltb, le-ltb}
 use mathlib.Core.Logic.{_≢_}
 use Rattle.laws.specs.Refusals.{noRoom}
 use Rattle.frame.specs.declared.messages.Command.{Command}
-use Rattle.places.specs.declared.answers.Outcome.the-variants.{Done}
-use Rattle.places.specs.Layout.{size}
+use Rattle.shape.specs.declared.answers.Outcome.the-variants.{Done}
+use Rattle.shape.specs.Layout.{size}
 use Rattle.places.specs.Runs.{Run, Meaning, refuses, names, enters, meaningOf, meant, readAs}
-use Rattle.places.specs.Limits.{room}
+use Rattle.shape.specs.Limits.{room}
 use Rattle.history.specs.Standing.{handed, sense, Frame, address, meaning, Known, typed, typeOf, gave, latest, more, listed, Judgement, refused, accepted, exchanged, judged, judgement, outcomeOf, Event, hear, back, deepest, stands, butLatest, struck, counted, standing, kept, answered}
 use Rattle.history.specs.Demand3.{doing, runBytes, Tells, Answers}
 use Rattle.history.specs.Effects.{Reads, HearsCommand, HearsEntry, HearsExchange, Alike, Own, Effect, Effects, SameAnswers, BackOver, Sixteenth, RoomAgain, RoomUsedAgain}

@@ -10,12 +10,12 @@ use lib.ListN.{getD, set, length, length-set}
 use lib.Seq.{getD-set-same, getD-set-other}
 use borrow.Author.Tests.{eqb-true, eqb-false}
 use Rattle.laws.proofs.Tab.{tab-ext, tab-snoc}
-use Rattle.places.specs.Limits.{room, addresses}
+use Rattle.shape.specs.Limits.{room, addresses}
 use Rattle.places.specs.Places.{places}
 use Rattle.places.specs.Runs.{Run}
 use Rattle.places.specs.Fitting.{endOf}
-use Rattle.places.specs.Layout.{countAt, slotAt, recordSize, recordAt, size}
-use Rattle.places.specs.Head.{modulesOf}
+use Rattle.shape.specs.Layout.{countAt, slotAt, recordSize, recordAt, size}
+use Rattle.shape.specs.Head.{modulesOf}
 use Rattle.picture.specs.Log.{didEnter, noted}
 use Rattle.picture.specs.Hearing.{newRecord, listedAt}
 use Rattle.history.specs.Machine.{entered, new}

@@ -9,12 +9,12 @@ use lib.Dec.{eqb}
 use lib.ListN.{getD, set}
 use lib.Seq.{getD-set-same}
 use borrow.Author.Tests.{eqb-true, eqb-false}
-use Rattle.places.specs.Limits.{room}
+use Rattle.shape.specs.Limits.{room}
 use Rattle.places.specs.Places.{places}
 use Rattle.places.specs.Runs.{Run}
 use Rattle.places.specs.Fitting.{endOf}
-use Rattle.places.specs.Layout.{keptAt, slotAt, recordSize, recordAt}
-use Rattle.places.specs.Head.{modulesOf, keptOf, depthOf}
+use Rattle.shape.specs.Layout.{keptAt, slotAt, recordSize, recordAt}
+use Rattle.shape.specs.Head.{modulesOf, keptOf, depthOf}
 use Rattle.picture.specs.Hearing.{newRecord, exchangedBytes}
 use Rattle.history.specs.Machine.{new}
 use Rattle.history.specs.Refinement.{entries, stateOf, Good}

@@ -12,9 +12,9 @@ use Rattle.laws.specs.Tab.{tab}
 use Rattle.laws.proofs.Tab.{length-tab, getD-tab}
 use Rattle.laws.proofs.Testing.{and-both}
 use Rattle.types.specs.Types.{noType}
-use Rattle.places.specs.Layout.{slotAt, recordAt, kindAt}
-use Rattle.places.specs.Limits.{room}
-use Rattle.places.specs.Head.{modulesOf, noSlot, believed, slotOf, kindIn}
+use Rattle.shape.specs.Layout.{slotAt, recordAt, kindAt}
+use Rattle.shape.specs.Limits.{room}
+use Rattle.shape.specs.Head.{modulesOf, noSlot, believed, slotOf, kindIn}
 use Rattle.history.specs.Machine.{Module, nobody, find, slot}
 use Rattle.history.specs.Refinement.{moduleAt, stateOf, Good}
 use Rattle.history.proofs.Modules.{none-some, find-slot, slot-lt, find-address}

@@ -12,10 +12,10 @@ use Rattle.laws.specs.Refusals.{typeNotKnown, tooShort}
 use Rattle.frame.specs.declared.messages.Message.the-variants.{Tells}
 use Rattle.frame.specs.declared.messages.Command.the-variants.{CellTold, BlockTold, CellSet, BlockSet, NameOne, NameTwo, NameThree}
 use Rattle.types.specs.Types.{lineOf, nameOf, extentOf}
-use Rattle.places.specs.Limits.{room}
+use Rattle.shape.specs.Limits.{room}
 use Rattle.places.specs.Places.{firstCharacter, characterPlace, cellPlace, hasName}
-use Rattle.places.specs.Layout.{placeAt}
-use Rattle.places.specs.Head.{short, kindIn}
+use Rattle.shape.specs.Layout.{placeAt}
+use Rattle.shape.specs.Head.{short, kindIn}
 use Rattle.places.specs.Runs.{Saying, Meaning, names, meant, meaningOf}
 use Rattle.places.proofs.Fitting.{extents-small}
 use Rattle.questions.specs.Question.{Question, type-of, name-row, memory-row, Reply, value, refusing}

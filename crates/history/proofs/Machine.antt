@@ -11,8 +11,8 @@ use lib.ListN.{length, getD, set, take, length-take}
 use lib.Seq.{set-set, set-getD, getD-set-same}
 use Rattle.laws.specs.Refusals.{noRoom}
 use Rattle.judging.specs.Reading.{reading}
-use Rattle.places.specs.Limits.{room, mostPlaces}
-use Rattle.places.specs.Places.{places}
+use Rattle.shape.specs.Limits.{room}
+use Rattle.places.specs.Places.{mostPlaces, places}
 use Rattle.places.specs.Runs.{Run, Saying, Meaning, refuses, names, enters, readAs}
 use Rattle.places.specs.Fitting.{FitsAs}
 use Rattle.places.proofs.Fitting.{runs-fit}

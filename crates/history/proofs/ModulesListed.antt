@@ -8,7 +8,7 @@ use mathlib.Core.List.{List, [], _∷_, reverseAux}
 use mathlib.Core.Option.{Option, none, some}
 use lib.Dec.{eqb}
 use borrow.Author.Tests.{eqb-true, eqb-false, ne-eqb}
-use Rattle.places.specs.Limits.{addresses}
+use Rattle.shape.specs.Limits.{addresses}
 use Rattle.places.specs.Runs.{Meaning, refuses, names, enters}
 use Rattle.history.specs.Standing.{Frame, address, meaning, typed, typeOf, more, listed, Event}
 use Rattle.history.specs.Asked.{yesIf}

@@ -8,9 +8,9 @@ use lib.ListN.{getD, set, length, length-set}
 use lib.Seq.{getD-set-same, getD-set-other}
 use Rattle.laws.proofs.Tab.{tab-ext, tab-same}
 use Rattle.places.specs.Runs.{Run}
-use Rattle.places.specs.Layout.{recordSize, recordAt, kindAt, placeAt, size}
+use Rattle.shape.specs.Layout.{recordSize, recordAt, kindAt, placeAt, size}
 use Rattle.places.specs.Places.{places}
-use Rattle.places.specs.Limits.{room}
+use Rattle.shape.specs.Limits.{room}
 use Rattle.history.specs.Standing.{unknown}
 use Rattle.places.specs.Fitting.{endOf}
 use Rattle.picture.specs.Hearing.{blankRecord, newRecord}

@@ -4,9 +4,9 @@ use native.Mathlib.Omega.{arith}
 use mathlib.Core.Path.{_≡_}
 use mathlib.Core.List.{List}
 use lib.ListN.{getD, length}
-use Rattle.places.specs.Limits.{ring}
-use Rattle.places.specs.Layout.{keptAt, nextAt, entrySize, oldAt, offsetAt, size}
-use Rattle.places.specs.Head.{nextOf}
+use Rattle.shape.specs.Limits.{ring}
+use Rattle.shape.specs.Layout.{keptAt, nextAt, entrySize, oldAt, offsetAt, size}
+use Rattle.shape.specs.Head.{nextOf}
 use Rattle.picture.specs.Log.{didNothing, didEnter, numberBytes, notedAt, noted}
 use Rattle.picture.specs.Stepping.{offsetOf}
 use Rattle.history.specs.Machine.{Undo, same, entered}

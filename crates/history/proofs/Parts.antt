@@ -12,10 +12,10 @@ use lib.Seq.{getD-set-same, getD-set-other, set-getD}
 use borrow.Author.Tests.{ltb-true, ltb-false, le-ltb}
 use Rattle.laws.specs.Tab.{tab}
 use Rattle.laws.proofs.Tab.{tab-ext, tab-set, length-tab}
-use Rattle.places.specs.Limits.{room, ring, addresses, mostPlaces}
-use Rattle.places.specs.Places.{places}
-use Rattle.places.specs.Layout.{countAt, keptAt, nextAt, depthAt, slotAt, recordSize, recordAt, kindAt, placeAt, ringAt, entrySize, oldAt, offsetAt, size}
-use Rattle.places.specs.Head.{short, modulesOf, keptOf, nextOf, depthOf, before, following}
+use Rattle.shape.specs.Limits.{room, ring, addresses}
+use Rattle.places.specs.Places.{mostPlaces, places}
+use Rattle.shape.specs.Layout.{countAt, keptAt, nextAt, depthAt, slotAt, recordSize, recordAt, kindAt, placeAt, ringAt, entrySize, oldAt, offsetAt, size}
+use Rattle.shape.specs.Head.{short, modulesOf, keptOf, nextOf, depthOf, before, following}
 use Rattle.steering.specs.Steps.{oneMore, stepped}
 use Rattle.picture.specs.Stepping.{offsetOf}
 use Rattle.history.specs.Machine.{Cell, Module, nobody, Undo, same, State}

@@ -6,11 +6,11 @@ use mathlib.Core.Bool.{Bool, true, false, cond}
 use mathlib.Core.List.{List}
 use lib.Dec.{eqb, ltb}
 use Rattle.laws.specs.Refusals.{noRoom, nothingKept, tooShort}
-use Rattle.places.specs.declared.answers.Outcome.the-variants.{Refused}
-use Rattle.places.specs.Limits.{room}
+use Rattle.shape.specs.declared.answers.Outcome.the-variants.{Refused}
+use Rattle.shape.specs.Limits.{room}
 use Rattle.places.specs.Runs.{Meaning, refuses, names, enters}
-use Rattle.places.specs.Result.{Result, refusing, done}
-use Rattle.places.specs.Head.{short, modulesOf, keptOf}
+use Rattle.shape.specs.Result.{Result, refusing, done}
+use Rattle.shape.specs.Head.{short, modulesOf, keptOf}
 use Rattle.picture.specs.Hearing.{enteredBytes, naming, entering, hearingAs, hearingAt, hearing}
 use Rattle.picture.specs.Stepping.{backOver, steppingBack}
 use Rattle.history.specs.Standing.{hear, back}

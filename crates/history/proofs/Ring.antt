@@ -8,8 +8,8 @@ use mathlib.Core.Logic.{_≢_}
 use mathlib.Core.List.{List, _∷_}
 use lib.ListN.{length, set, take}
 use lib.Seq.{getD-set-same, getD-set-other}
-use Rattle.places.specs.Limits.{ring}
-use Rattle.places.specs.Head.{before, following}
+use Rattle.shape.specs.Limits.{ring}
+use Rattle.shape.specs.Head.{before, following}
 use Rattle.history.specs.Machine.{Undo, same}
 use Rattle.history.specs.Refinement.{entries}
 

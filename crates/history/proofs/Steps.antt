@@ -12,12 +12,12 @@ use Rattle.laws.specs.Refusals.{noRoom}
 use Rattle.laws.specs.Tab.{tab}
 use Rattle.laws.proofs.Tab.{getD-tab, tab-ext}
 use Rattle.types.specs.Types.{noType}
-use Rattle.places.specs.Limits.{room, ring, addresses}
+use Rattle.shape.specs.Limits.{room, ring, addresses}
 use Rattle.places.specs.Runs.{Run, Saying, Meaning, refuses, names, enters}
 use Rattle.places.specs.Fitting.{Fits, FitsAs}
-use Rattle.places.specs.Layout.{nextAt}
-use Rattle.places.specs.Head.{modulesOf, keptOf, nextOf, depthOf, before, noSlot}
-use Rattle.places.specs.Result.{Result, refusing, done}
+use Rattle.shape.specs.Layout.{nextAt}
+use Rattle.shape.specs.Head.{modulesOf, keptOf, nextOf, depthOf, before, noSlot}
+use Rattle.shape.specs.Result.{Result, refusing, done}
 use Rattle.places.proofs.Fitting.{runs-fit}
 use Rattle.steering.specs.Steps.{stepped}
 use Rattle.picture.specs.Hearing.{toldBytes, sameBytes, isEmpty, naming, enteredBytes, exchangedBytes, entering, hearingAs, hearingAt, hearing}

@@ -13,7 +13,7 @@ use lib.Seq.{getD-set-same, getD-set-other}
 use borrow.Author.Tests.{eqb-true, eqb-false}
 use Rattle.laws.specs.Tab.{tab}
 use Rattle.laws.proofs.Tab.{tab-set}
-use Rattle.places.specs.Layout.{placeAt}
+use Rattle.shape.specs.Layout.{placeAt}
 use Rattle.places.specs.Runs.{Saying, silent, asks, tells}
 use Rattle.steering.specs.Fresh.{zeroed}
 use Rattle.picture.specs.Stores.{pair, putAt, written, blanked, stored, copied}

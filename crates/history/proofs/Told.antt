@@ -11,12 +11,12 @@ use lib.ListN.{getD, set, length, List·getD-eq-default}
 use borrow.Author.Tests.{ltb-true, ltb-false, lt-ltb, le-leb, eq-eqb}
 use Rattle.laws.specs.Tab.{tab}
 use Rattle.laws.proofs.Tab.{length-tab, getD-tab, tab-ext}
-use Rattle.places.specs.Limits.{room, mostPlaces}
-use Rattle.places.specs.Places.{places}
+use Rattle.shape.specs.Limits.{room}
+use Rattle.places.specs.Places.{mostPlaces, places}
 use Rattle.places.specs.Runs.{Run}
 use Rattle.places.specs.Fitting.{endOf}
-use Rattle.places.specs.Layout.{recordSize, recordAt, kindAt, placeAt, ringAt, entrySize, oldSize, oldAt, offsetAt, size}
-use Rattle.places.specs.Head.{nextOf}
+use Rattle.shape.specs.Layout.{recordSize, recordAt, kindAt, placeAt, ringAt, entrySize, oldSize, oldAt, offsetAt, size}
+use Rattle.shape.specs.Head.{nextOf}
 use Rattle.picture.specs.Stores.{written, copied}
 use Rattle.picture.specs.Log.{saved}
 use Rattle.history.specs.Machine.{Cell, Module, wrote, oldsFrom, olds, told-by}

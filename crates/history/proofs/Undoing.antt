@@ -13,10 +13,10 @@ use borrow.Author.Tests.{eqb-true, ltb-true, ltb-false, lt-ltb, leb-true}
 use Rattle.laws.specs.Tab.{tab}
 use Rattle.laws.proofs.Tab.{length-tab, getD-tab, tab-ext, tab-snoc}
 use Rattle.laws.proofs.Testing.{and-both}
-use Rattle.places.specs.Limits.{room, ring, mostPlaces}
-use Rattle.places.specs.Places.{places}
-use Rattle.places.specs.Layout.{countAt, slotAt, recordSize, recordAt, kindAt, placeAt, ringAt, oldSize, oldAt, size}
-use Rattle.places.specs.Head.{modulesOf, depthOf}
+use Rattle.shape.specs.Limits.{room, ring}
+use Rattle.places.specs.Places.{mostPlaces, places}
+use Rattle.shape.specs.Layout.{countAt, slotAt, recordSize, recordAt, kindAt, placeAt, ringAt, oldSize, oldAt, size}
+use Rattle.shape.specs.Head.{modulesOf, depthOf}
 use Rattle.picture.specs.Stores.{copied}
 use Rattle.picture.specs.Log.{didEnter}
 use Rattle.picture.specs.Stepping.{offsetOf, undone}

@@ -9,8 +9,8 @@ use lib.ListN.{length, drop}
 use Rattle.laws.specs.Refusals.{typeNotKnown, noSuchPlace, tooShort}
 use Rattle.laws.specs.Tab.{tab}
 use Rattle.types.specs.Types.{extentOf}
-use Rattle.places.specs.declared.answers.Answer.{Answer}
-use Rattle.places.specs.declared.answers.Answer.the-variants.{Value, NotHeard}
+use Rattle.shape.specs.declared.answers.Answer.{Answer}
+use Rattle.shape.specs.declared.answers.Answer.the-variants.{Value, NotHeard}
 use Rattle.places.specs.Places.{yearPlace, weekPlace, ledPlace, blindPlace, characterPlace, cellPlace}
 use Rattle.questions.specs.Question.{Question, type-of, build-year, build-week, cell, led, blind, name-row, name-bytes, memory-row, memory-bytes, Reply, answering, value, refusing}
 use Rattle.history.specs.Standing.{Frame, Known, unknown, told, typeOf}

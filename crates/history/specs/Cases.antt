@@ -4,9 +4,9 @@ use mathlib.Core.List.{List, [], _∷_, map, reverse}
 use mathlib.Core.Path.{_≡_}
 use lib.ListN.{length}
 use Rattle.laws.specs.Refusals.{noSuchPlace}
-use Rattle.places.specs.declared.answers.Answer.{Answer}
-use Rattle.places.specs.declared.answers.Answer.the-variants.{Value, NotHeard, Refused}
-use Rattle.places.specs.Layout.{size}
+use Rattle.shape.specs.declared.answers.Answer.{Answer}
+use Rattle.shape.specs.declared.answers.Answer.the-variants.{Value, NotHeard, Refused}
+use Rattle.shape.specs.Layout.{size}
 use Rattle.questions.specs.Question.{Question, Reply, build-year, cell, led, blind}
 use Rattle.questions.specs.Replies.{reply}
 use Rattle.history.specs.Standing.{Event, hear, back, deepest, standing, typeOf, latest}

@@ -6,11 +6,11 @@ use mathlib.Core.Path.{_≡_}
 use mathlib.Core.List.{List, [], _∷_, reverse}
 use mathlib.Core.Option.{Option, none, some}
 use lib.ListN.{length, getD}
-use Rattle.places.specs.declared.answers.Answer.the-variants.{Value}
-use Rattle.places.specs.declared.answers.Outcome.the-variants.{Refused}
+use Rattle.shape.specs.declared.answers.Answer.the-variants.{Value}
+use Rattle.shape.specs.declared.answers.Outcome.the-variants.{Refused}
 use Rattle.places.specs.Places.{places}
-use Rattle.places.specs.Result.{Result}
-use Rattle.places.specs.Layout.{size}
+use Rattle.shape.specs.Result.{Result}
+use Rattle.shape.specs.Layout.{size}
 use Rattle.picture.specs.Hearing.{hearing}
 use Rattle.picture.specs.Stepping.{steppingBack}
 use Rattle.steering.specs.Fresh.{fresheningWith}

@@ -4,9 +4,9 @@ use mathlib.Core.Path.{_≡_}
 use mathlib.Core.List.{List, _∷_, _++_}
 use lib.ListN.{length}
 use Rattle.laws.specs.Refusals.{nothingKept, noSuchPlace}
-use Rattle.places.specs.declared.answers.Outcome.the-variants.{Done, Refused}
-use Rattle.places.specs.Result.{refusing}
-use Rattle.places.specs.Layout.{size}
+use Rattle.shape.specs.declared.answers.Outcome.the-variants.{Done, Refused}
+use Rattle.shape.specs.Result.{refusing}
+use Rattle.shape.specs.Layout.{size}
 use Rattle.steering.specs.Fresh.{fresheningWith, freshening}
 use Rattle.history.specs.Standing.{Frame, accepted, judgement, Event, hear, back, deepest, standing, kept}
 use Rattle.history.specs.Demand3.{doing, runBytes}

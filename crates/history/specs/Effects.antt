@@ -12,9 +12,9 @@ use Rattle.judging.specs.Reading.{reading}
 use Rattle.frame.specs.declared.messages.Command.{Command}
 use Rattle.frame.specs.declared.messages.Message.the-variants as message
 use Rattle.frame.specs.declared.messages.Reading.the-variants.{Read}
-use Rattle.places.specs.declared.answers.Outcome.the-variants.{Done, Refused}
+use Rattle.shape.specs.declared.answers.Outcome.the-variants.{Done, Refused}
 use Rattle.places.specs.Runs.{Run, said, Meaning, refuses, names, enters, meaningOf}
-use Rattle.places.specs.Layout.{size}
+use Rattle.shape.specs.Layout.{size}
 use Rattle.questions.specs.Question.{Question}
 use Rattle.questions.specs.Replies.{reply, listing}
 use Rattle.history.specs.Standing.{mostListed, deepest, Frame, address, sense, meaning, Known, unknown, after, typeOf, latest, listed, accepted, judgement, Event, hear, back, standing, kept}

@@ -7,8 +7,8 @@ use mathlib.Core.Option.{Option, none, some}
 use lib.Dec.{eqb, ltb}
 use lib.ListN.{length, getD, set, take, replicate}
 use Rattle.laws.specs.Refusals.{noRoom, nothingKept}
-use Rattle.places.specs.Limits.{room, mostPlaces}
-use Rattle.places.specs.Places.{places}
+use Rattle.shape.specs.Limits.{room}
+use Rattle.places.specs.Places.{mostPlaces, places}
 use Rattle.places.specs.Runs.{Run, Saying, silent, asks, tells, Meaning, refuses, names, enters}
 use Rattle.history.specs.Standing.{address, meaning, Known, unknown, told, Judgement, refused, accepted, exchanged, Event, hear, back}
 

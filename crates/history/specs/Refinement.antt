@@ -8,10 +8,10 @@ use mathlib.Core.Option.{none, some}
 use lib.Dec.{eqb, ltb, leb}
 use lib.ListN.{getD, length}
 use Rattle.laws.specs.Tab.{tab}
-use Rattle.places.specs.Limits.{ring, addresses, mostPlaces}
-use Rattle.places.specs.Places.{places}
-use Rattle.places.specs.Layout.{slotAt, recordsAt, recordHead, recordSize, recordAt, kindAt, placeAt, ringAt, oldSize, oldAt, size}
-use Rattle.places.specs.Head.{modulesOf, keptOf, nextOf, depthOf, before}
+use Rattle.shape.specs.Limits.{ring, addresses}
+use Rattle.places.specs.Places.{mostPlaces, places}
+use Rattle.shape.specs.Layout.{slotAt, recordsAt, recordHead, recordSize, recordAt, kindAt, placeAt, ringAt, oldSize, oldAt, size}
+use Rattle.shape.specs.Head.{modulesOf, keptOf, nextOf, depthOf, before}
 use Rattle.picture.specs.Log.{didEnter}
 use Rattle.picture.specs.Stepping.{offsetOf}
 use Rattle.history.specs.Standing.{unknown, told, outcomeOf, Event}

@@ -6,7 +6,7 @@ use mathlib.Core.Logic.{_⊎_}
 use mathlib.Core.List.{List, _∷_}
 use mathlib.Core.Option.{Option, none, some}
 use lib.ListN.{length, drop}
-use Rattle.places.specs.Layout.{size}
+use Rattle.shape.specs.Layout.{size}
 use Rattle.places.specs.Runs.{Run, Saying, silent, asks, tells, said, Meaning, refuses, names, enters, runIn}
 use Rattle.history.specs.Standing.{Frame, address, meaning, typeOf, Known, unknown, told, Event, deepest, standing}
 use Rattle.history.specs.Demand3.{runBytes, Tells}

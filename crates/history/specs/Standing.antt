@@ -9,8 +9,8 @@ use Rattle.laws.specs.Refusals.{noRoom, nothingKept}
 use Rattle.frame.specs.Identifiers.{addressOf}
 use Rattle.types.specs.Types.{noType}
 use Rattle.judging.specs.Reading.{reading}
-use Rattle.places.specs.declared.answers.Outcome.{Outcome}
-use Rattle.places.specs.declared.answers.Outcome.the-variants as outcome
+use Rattle.shape.specs.declared.answers.Outcome.{Outcome}
+use Rattle.shape.specs.declared.answers.Outcome.the-variants as outcome
 use Rattle.places.specs.Runs.{Saying, silent, asks, tells, said, Meaning, refuses, names, enters, readAs}
 
 -- the most modules that are listed, and the greatest depth of a way back: the most steps back that a fresh picture may be told to keep

@@ -27,7 +27,7 @@ use Rattle.codec.specs.declared.writer.Frame.{Frame}
 use Rattle.codec.specs.declared.writer.Writing.the-variants as w
 use Rattle.codec.proofs.Lawful.{Lawful}
 use Rattle.codec.proofs.RoundTrip.{read-then-written, written-lawful}
-use Rattle.places.specs.Limits.{busAddress}
+use Rattle.shape.specs.Limits.{busAddress}
 use Rattle.bench.specs.Taking.{firstRefusals, sentOnly, judgedIf, judged}
 use Rattle.bench.specs.declared.verdicts.Verdict.the-variants.{Takes, Silent, Refuses}
 use Rattle.lessons.proofs.Doing.{received, no}

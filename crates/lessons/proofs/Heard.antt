@@ -10,7 +10,7 @@ use lib.ListN.{length}
 use borrow.Author.Tests.{eqb-false, eq-eqb, lt-ltb}
 use Rattle.types.specs.Types.{vmb8ir}
 use Rattle.places.specs.Runs.{Run, said, noRun, names, enters}
-use Rattle.places.specs.Layout.{size}
+use Rattle.shape.specs.Layout.{size}
 use Rattle.history.specs.Standing.{mostListed, deepest, Frame, address, meaning, typed, typeOf, Known, unknown, after, gave, latest, listed, Judgement, refused, accepted, exchanged, judged, judgement, outcomeOf, hear, stands, standing, answered}
 use Rattle.history.specs.Demand3.{runBytes, Tells}
 use Rattle.history.proofs.Demand3.{demand-3}

@@ -24,9 +24,9 @@ use Rattle.frame.specs.declared.messages.Reading.the-variants.{Read}
 use Rattle.judging.specs.Reading.{reading}
 use Rattle.codec.proofs.Accepted.{every-request}
 use Rattle.codec.proofs.RoundTrip.{written-then-read}
-use Rattle.places.specs.declared.answers.Answer.the-variants.{Value, NotHeard, Refused}
+use Rattle.shape.specs.declared.answers.Answer.the-variants.{Value, NotHeard, Refused}
 use Rattle.places.specs.Places.{ledPlace, cellPlace, firstCharacter, characterPlace}
-use Rattle.places.specs.Limits.{busAddress}
+use Rattle.shape.specs.Limits.{busAddress}
 use Rattle.places.specs.Runs.{Run, noRun, names, enters, ledBy, meaningOf, meant, readAs}
 use Rattle.questions.specs.Question.{type-of, cell, led, name-row, Reply, value}
 use Rattle.questions.specs.Replies.{reply}

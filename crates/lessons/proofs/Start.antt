@@ -10,10 +10,10 @@ use lib.Seq.{sets, getD-set-same, getD-set-other, length-sets}
 use borrow.Author.Tests.{leb-false, ltb-false}
 use Rattle.laws.specs.Refusals.{typeNotKnown, badField, codeAt, tooShort}
 use Rattle.laws.proofs.Stores.{sets-front}
-use Rattle.places.specs.declared.answers.Outcome.the-variants.{Done, Refused}
-use Rattle.places.specs.Limits.{addresses}
-use Rattle.places.specs.Result.{Result}
-use Rattle.places.specs.Result as result
+use Rattle.shape.specs.declared.answers.Outcome.the-variants.{Done, Refused}
+use Rattle.shape.specs.Limits.{addresses}
+use Rattle.shape.specs.Result.{Result}
+use Rattle.shape.specs.Result as result
 use Rattle.bench.specs.Bench.{benchSize, namedCells, own, ownAddress, newBench}
 use Rattle.bench.specs.Taking.{making}
 use Rattle.bench.proofs.Storing.{new-long}

@@ -6,10 +6,10 @@ use mathlib.Core.Path.{_≡_}
 use mathlib.Core.Logic.{_⊎_}
 use mathlib.Core.List.{List, [], _∷_, _++_, map}
 use lib.ListN.{length, getD, take}
-use Rattle.places.specs.declared.answers.Answer.the-variants.{Value}
-use Rattle.places.specs.declared.answers.Outcome.the-variants.{Done}
+use Rattle.shape.specs.declared.answers.Answer.the-variants.{Value}
+use Rattle.shape.specs.declared.answers.Outcome.the-variants.{Done}
 use Rattle.places.specs.Places.{ledPlace}
-use Rattle.places.specs.Layout.{size}
+use Rattle.shape.specs.Layout.{size}
 use Rattle.questions.specs.Question.{type-of, cell, led, name-row, value}
 use Rattle.questions.specs.Replies.{reply}
 use Rattle.history.specs.Standing.{mostListed, deepest, Frame, address, listed, hear, standing}

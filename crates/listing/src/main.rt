@@ -2,10 +2,10 @@
 use libc::STDERR_FILENO;
 use libc::STDIN_FILENO;
 use libc::STDOUT_FILENO;
-use places::Outcome;
 use recording::Put;
 use replay::Part;
 use replay::Stream;
+use shape::Outcome;
 use texts::LISTING_ROOM;
 
 // The way back's depth on which the classroom program has always relied.

@@ -29,14 +29,14 @@ use Rattle.frame.specs.declared.messages.Reading.the-variants.{Read}
 use Rattle.judging.proofs.Numbers.{refused-as, accepted-as}
 use Rattle.types.proofs.Listed.{listed-module}
 use Rattle.frame.proofs.Commands.{type-sized}
-use Rattle.places.specs.declared.answers.Outcome.{Outcome}
-use Rattle.places.specs.Limits.{room, busAddress}
+use Rattle.shape.specs.declared.answers.Outcome.{Outcome}
+use Rattle.shape.specs.Limits.{room, busAddress}
 use Rattle.places.specs.Places.{places}
 use Rattle.places.specs.Runs.{noRun, names, meaningOf, meant, readAs, commandOf}
 use Rattle.places.specs.Fitting.{endOf, FitsAs}
-use Rattle.places.specs.Result.{Result, refusing, done}
-use Rattle.places.specs.Layout.{slotAt, recordAt}
-use Rattle.places.specs.Head.{modulesOf, noSlot, believed, slotOf, kindIn}
+use Rattle.shape.specs.Result.{Result, refusing, done}
+use Rattle.shape.specs.Layout.{slotAt, recordAt}
+use Rattle.shape.specs.Head.{modulesOf, noSlot, believed, slotOf, kindIn}
 use Rattle.places.proofs.Fitting.{Accepted, read-accepted, runs-fit}
 use Rattle.picture.specs.Hearing.{naming, hearingAs, hearingAt}
 use Rattle.picture.specs.Commands.{namedBy}

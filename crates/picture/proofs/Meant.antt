@@ -22,7 +22,7 @@ use Rattle.types.proofs.Listed.{everywhere, of-listed}
 use Rattle.frame.proofs.Commands.{type-shaped}
 use Rattle.frame.specs.declared.messages.Command.{Command}
 use Rattle.frame.specs.declared.messages.Command.the-variants.{TypeLong, TypeShort}
-use Rattle.places.specs.Limits.{room}
+use Rattle.shape.specs.Limits.{room}
 use Rattle.places.specs.Places.{places}
 use Rattle.places.specs.Runs.{Run, noRun, names, enters, buildTold, meaningOf, runIn, commandOf}
 use Rattle.places.specs.Fitting.{endOf}

@@ -11,11 +11,11 @@ use lib.ListN.{getD, set, take, drop}
 use lib.Seq.{getD-set-other, take-nil}
 use Rattle.laws.specs.Tab.{tab}
 use Rattle.laws.proofs.Tab.{getD-tab}
-use Rattle.places.specs.Limits.{ring}
-use Rattle.places.specs.Layout.{placeAt}
+use Rattle.shape.specs.Limits.{ring}
+use Rattle.shape.specs.Layout.{placeAt}
 use Rattle.places.specs.Places.{places}
 use Rattle.places.specs.Runs.{Run, Saying}
-use Rattle.places.specs.Head.{nextOf}
+use Rattle.shape.specs.Head.{nextOf}
 use Rattle.picture.specs.Stores.{pair, putAt, written, blanked, stored, copied}
 use Rattle.steering.specs.Steps.{stepped}
 use Rattle.picture.specs.Log.{saved}

@@ -6,12 +6,12 @@ use lib.Dec.{eqb, ltb}
 use lib.ListN.{set}
 use Rattle.laws.specs.Refusals.{noRoom, tooShort}
 use Rattle.judging.specs.Reading.{reading}
-use Rattle.places.specs.Limits.{room, busAddress}
+use Rattle.shape.specs.Limits.{room, busAddress}
 use Rattle.places.specs.Places.{places}
 use Rattle.places.specs.Runs.{Saying, Run, Meaning, refuses, names, enters, readAs}
-use Rattle.places.specs.Result.{Result, refusing, done}
-use Rattle.places.specs.Layout.{countAt, keptAt, slotAt, recordAt, kindAt, placeAt}
-use Rattle.places.specs.Head.{short, modulesOf, slotOf, kindIn}
+use Rattle.shape.specs.Result.{Result, refusing, done}
+use Rattle.shape.specs.Layout.{countAt, keptAt, slotAt, recordAt, kindAt, placeAt}
+use Rattle.shape.specs.Head.{short, modulesOf, slotOf, kindIn}
 use Rattle.picture.specs.Stores.{written, blanked}
 use Rattle.steering.specs.Steps.{stepped}
 use Rattle.picture.specs.Log.{didNothing, didEnter, noted, saved}

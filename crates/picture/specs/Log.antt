@@ -2,8 +2,8 @@
 use Prim.Native.Nat.{ℕ, _+_, _*_, _/_, _%_}
 use mathlib.Core.List.{List, [], _∷_}
 use lib.ListN.{getD}
-use Rattle.places.specs.Layout.{placeAt, oldSize, oldAt, offsetAt}
-use Rattle.places.specs.Head.{nextOf}
+use Rattle.shape.specs.Layout.{placeAt, oldSize, oldAt, offsetAt}
+use Rattle.shape.specs.Head.{nextOf}
 use Rattle.picture.specs.Stores.{stored, copied}
 
 -- an entry's offset where nothing was written, and where a module was entered

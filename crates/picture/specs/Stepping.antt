@@ -5,9 +5,9 @@ use mathlib.Core.List.{List}
 use lib.Dec.{eqb, leb}
 use lib.ListN.{getD, set}
 use Rattle.laws.specs.Refusals.{nothingKept, tooShort}
-use Rattle.places.specs.Layout.{countAt, keptAt, nextAt, ringAt, oldSize, oldAt, offsetAt}
-use Rattle.places.specs.Result.{Result, refusing, done}
-use Rattle.places.specs.Head.{short, modulesOf, keptOf, nextOf, before}
+use Rattle.shape.specs.Layout.{countAt, keptAt, nextAt, ringAt, oldSize, oldAt, offsetAt}
+use Rattle.shape.specs.Result.{Result, refusing, done}
+use Rattle.shape.specs.Head.{short, modulesOf, keptOf, nextOf, before}
 use Rattle.picture.specs.Stores.{copied}
 use Rattle.picture.specs.Log.{didEnter, numberAt}
 

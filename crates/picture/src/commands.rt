@@ -27,11 +27,11 @@ ghost use Rattle.laws.specs.Tests.{among};
 ghost use Rattle.types.specs.Types.{nameOf, rowFor, isListed};
 ghost use Rattle.frame.specs.Bytes.{byte};
 ghost use Rattle.frame.specs.Messages.{typeCommand, locationIn};
-ghost use Rattle.places.specs.Limits.{room};
+ghost use Rattle.shape.specs.Limits.{room};
 ghost use Rattle.places.specs.Places.{places, cellPlace, characterPlace};
 ghost use Rattle.places.specs.Runs.{namedBlind, blindState};
 ghost use Rattle.places.specs.Fitting.{endOf};
-ghost use Rattle.places.specs.Layout.{size};
+ghost use Rattle.shape.specs.Layout.{size};
 ghost use Rattle.picture.specs.Hearing.{naming};
 ghost use Rattle.picture.specs.Commands.{namedBy, cellCommands, nameCommands, ledCommands};
 

@@ -1,16 +1,16 @@
 // The ring of log entries, from which a step back is undone: the bytes of eight places as they were, and where they lay.
 use crate::bytes::copy_sixteen;
 use crate::bytes::store_number;
-use places::next_of;
-use places::offset_at;
-use places::old_at;
-use places::place_at;
+use shape::next_of;
+use shape::offset_at;
+use shape::old_at;
+use shape::place_at;
 ghost use mathlib.Core.Path.{_≡_};
 ghost use Prim.Native.Nat.{_<_, _≤_};
 ghost use lib.ListN.{length};
-ghost use Rattle.places.specs.Limits.{room, ring};
+ghost use Rattle.shape.specs.Limits.{room, ring};
 ghost use Rattle.places.specs.Places.{places};
-ghost use Rattle.places.specs.Layout.{size};
+ghost use Rattle.shape.specs.Layout.{size};
 ghost use Rattle.picture.specs.Log.{notedAt, saved};
 
 // An entry's offset where nothing was written, and where a module was entered.

@@ -2,17 +2,17 @@
 use crate::bytes::put_pair;
 use crate::telling::put_build;
 use frame::Address;
-use places::kind_at;
-use places::place_at;
-use places::put_at;
-use places::record_at;
+use shape::kind_at;
+use shape::place_at;
+use shape::put_at;
+use shape::record_at;
 ghost use mathlib.Core.Path.{_≡_};
 ghost use Prim.Native.Nat.{_<_, _≤_};
 ghost use lib.ListN.{length, replicate};
-ghost use Rattle.places.specs.Limits.{room};
+ghost use Rattle.shape.specs.Limits.{room};
 ghost use Rattle.places.specs.Places.{places};
 ghost use Rattle.places.specs.Runs.{buildTold};
-ghost use Rattle.places.specs.Layout.{placeAt, size};
+ghost use Rattle.shape.specs.Layout.{placeAt, size};
 ghost use Rattle.picture.specs.Stores.{blanked};
 ghost use Rattle.picture.specs.Hearing.{blankRecord, newRecord};
 

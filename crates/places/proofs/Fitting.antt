@@ -31,8 +31,7 @@ use Rattle.frame.specs.declared.messages.Reading.the-variants.{Read, Refused}
 use Rattle.laws.proofs.Keys.{every}
 use Rattle.judging.proofs.Judged.{command-held}
 use Rattle.types.proofs.Listed.{of-line, of-listed}
-use Rattle.places.specs.Limits.{mostPlaces}
-use Rattle.places.specs.Places.{places, ledPlace, firstCharacter, characterPlace, cellPlace}
+use Rattle.places.specs.Places.{mostPlaces, places, ledPlace, firstCharacter, characterPlace, cellPlace}
 use Rattle.places.specs.Runs.{Run, noRun, telling, asking, buildTold, characters, namedBlind, blindState, someLeds, allLeds, Meaning, refuses, names, enters, meaningOf, meant, readAs}
 use Rattle.places.specs.Fitting.{endOf, Lies, in-build, in-leds, in-blinds, in-names, in-cells, LiesAs, RunsLie, FitsAs, RunsFit}
 use Rattle.places.proofs.Readers.{AllRead, read-as}

@@ -4,8 +4,7 @@ use mathlib.Core.List.{List}
 use lib.ListN.{length}
 use Rattle.types.specs.Types.{extentOf}
 use Rattle.judging.specs.Reading.{reading}
-use Rattle.places.specs.Limits.{mostPlaces}
-use Rattle.places.specs.Places.{places, weekPlace, ledPlace, blindPlace, nameLength, characterPlace, cellPlace}
+use Rattle.places.specs.Places.{mostPlaces, places, weekPlace, ledPlace, blindPlace, nameLength, characterPlace, cellPlace}
 use Rattle.places.specs.Runs.{Run, Meaning, refuses, names, enters, readAs}
 
 -- where a run ends

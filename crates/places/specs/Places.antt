@@ -12,6 +12,10 @@ places = 512
 abbrev pub nowhere : ℕ
 nowhere = places
 
+-- the most places that one frame speaks of
+abbrev pub mostPlaces : ℕ
+mostPlaces = 8
+
 -- the build, by bytes of the type frame
 abbrev pub yearPlace : ℕ
 yearPlace = 0

@@ -1,40 +1,7 @@
-// The places of a module and where they lie in a picture's bytes; every function here is total on any bytes.
-mod answers;
-mod bytes;
-mod head;
-mod layout;
+// The places of a module, and what each frame says of them; every function here is total.
 mod leds;
 mod places;
 
-pub use answers::Answer;
-pub use answers::NOT_HEARD;
-pub use answers::Outcome;
-pub use bytes::put_at;
-pub use head::NO_SLOT;
-pub use head::depth_of;
-pub use head::kept_of;
-pub use head::kind_in;
-pub use head::modules_of;
-pub use head::next_of;
-pub use head::slot_of;
-pub use layout::ADDRESSES;
-pub use layout::COUNT_AT;
-pub use layout::DEPTH_AT;
-pub use layout::HEAD_SIZE;
-pub use layout::KEPT_AT;
-pub use layout::MOST_DEPTH;
-pub use layout::NEXT_AT;
-pub use layout::OLD_SIZE;
-pub use layout::RING;
-pub use layout::RING_AT;
-pub use layout::ROOM;
-pub use layout::SIZE;
-pub use layout::kind_at;
-pub use layout::offset_at;
-pub use layout::old_at;
-pub use layout::place_at;
-pub use layout::record_at;
-pub use layout::slot_at;
 pub use leds::glow_by;
 pub use leds::glow_number;
 pub use places::LEDS;

@@ -15,11 +15,11 @@ use Rattle.laws.specs.Limits.{AllBytes}
 use Rattle.laws.specs.Tab.{tab}
 use Rattle.laws.proofs.Tab.{length-tab, getD-tab, tab-ext}
 use Rattle.types.specs.Types.{extentOf}
-use Rattle.places.specs.declared.answers.Answer.the-variants.{Value, NotHeard, Refused}
-use Rattle.places.specs.Limits.{room, notHeard}
+use Rattle.shape.specs.declared.answers.Answer.the-variants.{Value, NotHeard, Refused}
+use Rattle.shape.specs.Limits.{room, notHeard}
 use Rattle.places.specs.Places.{places, cellPlace, cellAsked, cellRow}
-use Rattle.places.specs.Layout.{size, placeAt}
-use Rattle.places.specs.Head.{short, kindIn}
+use Rattle.shape.specs.Layout.{size, placeAt}
+use Rattle.shape.specs.Head.{short, kindIn}
 use Rattle.questions.specs.Question.{Reply, cell, memory-row, answering, value, refusing}
 use Rattle.questions.specs.Fills.{filledTo, filling, valueAt, rowNumber, numbersFill}
 use Rattle.questions.specs.Replies.{slotAsked, answerAt, placeReply, replyAs, replyIn, reply}

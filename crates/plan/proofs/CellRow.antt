@@ -9,7 +9,7 @@ use lib.Seq.{take-suc-set}
 use native.Mathlib.Numerals.{add-one}
 use Rattle.laws.specs.Tab.{tab}
 use Rattle.laws.proofs.Tab.{length-tab, getD-tab, tab-snoc}
-use Rattle.places.specs.Limits.{notHeard}
+use Rattle.shape.specs.Limits.{notHeard}
 use Rattle.questions.specs.Fills.{valueAt}
 use Rattle.plan.specs.Plan.{nextUnknown}
 use Rattle.plan.specs.Judging.{allLegal, missed}

@@ -10,7 +10,7 @@ use mathlib.Core.List.{List, [], _∷_}
 use lib.ListN.{length}
 use lib.Dec.{leb}
 use borrow.Author.Tests.{le-leb, lt-leb, leb-true, eqb-true, eqb-false}
-use Rattle.places.specs.Limits.{notHeard}
+use Rattle.shape.specs.Limits.{notHeard}
 use Rattle.plan.specs.Reads.{Unknown, lastStartOf, Reads, AllLegal, ReadBy, Covers}
 use Rattle.plan.specs.Plan.{unknown, startFor, withRead, planFrom, planOf, leastReads}
 use Rattle.plan.specs.Statements.{PlanIsRight, CountIsLeast, NothingUnknown, QuarterIsEnough}

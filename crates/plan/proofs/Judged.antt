@@ -8,7 +8,7 @@ use mathlib.Core.List.{List, [], _∷_}
 use lib.ListN.{length}
 use lib.Dec.{leb, ltb, eqb}
 use borrow.Author.Tests.{le-leb, leb-true, lt-ltb, ltb-true, eqb-true, eq-eqb}
-use Rattle.places.specs.Limits.{notHeard}
+use Rattle.shape.specs.Limits.{notHeard}
 use Rattle.plan.specs.Reads.{Unknown, block, lastStartOf, Reads, AllLegal, ReadBy, RightPlan}
 use Rattle.plan.specs.Plan.{unknown, leastReads}
 use Rattle.plan.specs.Judging.{allLegal, reads, readBy, missed, noneMissed, rightPlan}

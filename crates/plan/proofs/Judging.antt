@@ -8,7 +8,7 @@ use lib.ListN.{length, getD, drop, drop-of-length-le}
 use lib.Seq.{drop-cons}
 use lib.Dec.{leb}
 use borrow.Author.Tests.{le-leb, lt-leb, le-ltb, lt-ltb, eq-eqb, ne-eqb}
-use Rattle.places.specs.Limits.{notHeard}
+use Rattle.shape.specs.Limits.{notHeard}
 use Rattle.plan.specs.Reads.{block, lastStartOf}
 use Rattle.plan.specs.Judging.{allLegal, reads, readBy, missed, noneMissed, rightPlan}
 use Rattle.plan.specs.Plan.{leastReads}

@@ -8,10 +8,10 @@ use lib.Dec.{leb}
 use lib.ListN.{length, drop}
 use borrow.Author.Tests.{lt-ltb, le-ltb, le-leb, lt-leb, leb-true, leb-false, eq-eqb, ne-eqb}
 use Rattle.laws.specs.Refusals.{typeNotKnown, tooShort}
-use Rattle.places.specs.Limits.{room}
+use Rattle.shape.specs.Limits.{room}
 use Rattle.places.specs.Places.{places, cellRow}
-use Rattle.places.specs.Layout.{size, placeAt}
-use Rattle.places.specs.Head.{kindIn}
+use Rattle.shape.specs.Layout.{size, placeAt}
+use Rattle.shape.specs.Head.{kindIn}
 use Rattle.questions.specs.Question.{Reply, value, refusing}
 use Rattle.questions.specs.Replies.{slotAsked}
 use Rattle.questions.specs.Statements.{inBytes}

@@ -8,7 +8,7 @@ use mathlib.Core.Logic.{_⊎_, inl, inr, ⊎-elim}
 use mathlib.Core.List.{List, [], _∷_}
 use lib.ListN.{length, getD, drop}
 use borrow.Author.Tests.{eqb-true, eqb-false}
-use Rattle.places.specs.Limits.{notHeard}
+use Rattle.shape.specs.Limits.{notHeard}
 use Rattle.plan.specs.Reads.{Unknown, lastStartOf, ReadBy}
 use Rattle.plan.specs.Plan.{unknown, startFor, withRead, planFrom, planOf}
 use Rattle.plan.specs.Statements.{Rising, LowestUnread, AsAsked, PlanRises, PlanAsAsked, OnlyPlan}

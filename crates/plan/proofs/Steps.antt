@@ -10,7 +10,7 @@ use mathlib.Core.List.{List, [], _∷_}
 use lib.ListN.{length, getD, drop, length-drop, drop-of-length-le, List·getD-eq-default}
 use lib.Seq.{drop-cons, drop-drop, getD-drop}
 use borrow.Author.Tests.{eq-eqb, ne-eqb, eqb-true}
-use Rattle.places.specs.Limits.{notHeard}
+use Rattle.shape.specs.Limits.{notHeard}
 use Rattle.plan.specs.Reads.{Unknown}
 use Rattle.plan.specs.Plan.{unknown, startFor, planFrom, planOf, leastReads, nextUnknown}
 

@@ -4,7 +4,7 @@ use mathlib.Core.Bool.{Bool, true, false, cond}
 use mathlib.Core.List.{List, [], _∷_}
 use lib.ListN.{length}
 use lib.Dec.{eqb}
-use Rattle.places.specs.Limits.{notHeard}
+use Rattle.shape.specs.Limits.{notHeard}
 use Rattle.plan.specs.Reads.{block, lastStartOf}
 
 abbrev pub unknown : ℕ → Bool

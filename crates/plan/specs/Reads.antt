@@ -5,7 +5,7 @@ use mathlib.Core.Path.{_≡_}
 use mathlib.Core.Logic.{_⊎_}
 use mathlib.Core.List.{List, [], _∷_}
 use lib.ListN.{length, getD}
-use Rattle.places.specs.Limits.{notHeard}
+use Rattle.shape.specs.Limits.{notHeard}
 
 -- the cell is not told; past the row's end there is no cell, and so no unknown one
 abbrev pub Unknown : List ℕ → ℕ → Type 0

@@ -6,12 +6,12 @@ use lib.Dec.{leb, ltb, eqb}
 use lib.ListN.{length, drop}
 use Rattle.laws.specs.Refusals.{typeNotKnown, tooShort}
 use Rattle.laws.specs.Tab.{tab}
-use Rattle.places.specs.declared.answers.Answer.{Answer}
-use Rattle.places.specs.declared.answers.Answer.the-variants.{Value}
-use Rattle.places.specs.Limits.{room}
+use Rattle.shape.specs.declared.answers.Answer.{Answer}
+use Rattle.shape.specs.declared.answers.Answer.the-variants.{Value}
+use Rattle.shape.specs.Limits.{room}
 use Rattle.places.specs.Places.{cellRow}
-use Rattle.places.specs.Layout.{placeAt}
-use Rattle.places.specs.Head.{short, kindIn}
+use Rattle.shape.specs.Layout.{placeAt}
+use Rattle.shape.specs.Head.{short, kindIn}
 use Rattle.questions.specs.Question.{Reply, answering, value, refusing}
 use Rattle.questions.specs.Fills.{valueAt}
 use Rattle.questions.specs.Replies.{slotAsked}

@@ -7,10 +7,10 @@ use mathlib.Core.List.{List, [], _∷_, _++_}
 use lib.ListN.{length, getD, take, drop}
 use Rattle.laws.specs.Limits.{AllBytes}
 use Rattle.types.specs.Types.{cellsOf, lastStart}
-use Rattle.places.specs.declared.answers.Answer.the-variants.{Value, NotHeard}
-use Rattle.places.specs.Limits.{room}
-use Rattle.places.specs.Layout.{size}
-use Rattle.places.specs.Head.{kindIn}
+use Rattle.shape.specs.declared.answers.Answer.the-variants.{Value, NotHeard}
+use Rattle.shape.specs.Limits.{room}
+use Rattle.shape.specs.Layout.{size}
+use Rattle.shape.specs.Head.{kindIn}
 use Rattle.questions.specs.Question.{cell, memory-row}
 use Rattle.questions.specs.Replies.{slotAsked, reply}
 use Rattle.questions.specs.Statements.{inBytes, replyInBytes}

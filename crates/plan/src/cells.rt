@@ -1,14 +1,14 @@
 // The cells of a module where they lie in a picture: so many neighbouring places, the first of which is at `at`.
 use laws::number16;
-use places::NOT_HEARD;
-use places::place_at;
 use questions::first_cell;
+use shape::NOT_HEARD;
+use shape::place_at;
 ghost use mathlib.Core.Path.{_≡_};
 ghost use Prim.Native.Nat.{_+_, _*_, _≤_};
 ghost use lib.ListN.{length, drop};
 ghost use Rattle.places.specs.Places.{cellRow};
-ghost use Rattle.places.specs.Layout.{placeAt};
-ghost use Rattle.places.specs.Head.{kindIn};
+ghost use Rattle.shape.specs.Layout.{placeAt};
+ghost use Rattle.shape.specs.Head.{kindIn};
 ghost use Rattle.questions.specs.Fills.{valueAt};
 ghost use Rattle.plan.specs.Reads.{block, lastStartOf};
 ghost use Rattle.plan.specs.Plan.{startFor, nextUnknown, leastReads};

@@ -9,14 +9,14 @@ use frame::Message;
 use libc::STDERR_FILENO;
 use libc::STDIN_FILENO;
 use libc::STDOUT_FILENO;
-use places::ADDRESSES;
-use places::Answer;
-use places::Outcome;
 use places::PLACES;
 use questions::AddressAsked;
 use recording::Put;
 use replay::Part;
 use replay::Stream;
+use shape::ADDRESSES;
+use shape::Answer;
+use shape::Outcome;
 use texts::PLAN_ROOM;
 
 // No step back is taken.

@@ -9,12 +9,12 @@ use lib.ListN.{length, getD}
 use borrow.Author.Tests.{eqb-true, eqb-false, lt-ltb, le-ltb, leb-true}
 use Rattle.laws.specs.Limits.{AllBytes}
 use Rattle.laws.specs.Refusals.{typeNotKnown, noSuchPlace, tooShort}
-use Rattle.places.specs.declared.answers.Answer.{Answer}
-use Rattle.places.specs.declared.answers.Answer.the-variants.{Value, NotHeard, Refused}
-use Rattle.places.specs.Limits.{room}
+use Rattle.shape.specs.declared.answers.Answer.{Answer}
+use Rattle.shape.specs.declared.answers.Answer.the-variants.{Value, NotHeard, Refused}
+use Rattle.shape.specs.Limits.{room}
 use Rattle.places.specs.Places.{Row, hasName, nameRow, nameLength}
-use Rattle.places.specs.Layout.{placeAt}
-use Rattle.places.specs.Head.{short, kindIn}
+use Rattle.shape.specs.Layout.{placeAt}
+use Rattle.shape.specs.Head.{short, kindIn}
 use Rattle.questions.specs.Question.{Reply, name-row, value, refusing}
 use Rattle.questions.specs.Fills.{filledTo, filling, valueAt, heardAt, rowNumber, numbersFill, heardIn}
 use Rattle.questions.specs.Replies.{slotAsked, replyAs, replyIn, reply}

@@ -13,7 +13,7 @@ use borrow.Author.Tests.{eqb-true, eqb-false, lt-leb, le-leb}
 use Rattle.laws.specs.Limits.{AllBytes}
 use Rattle.laws.specs.Refusals.{tooShort}
 use Rattle.places.specs.Places.{Row}
-use Rattle.places.specs.Layout.{placeAt}
+use Rattle.shape.specs.Layout.{placeAt}
 use Rattle.questions.specs.Question.{refusing, value}
 use Rattle.questions.specs.Fills.{filledTo, filling, valueAt, heardAt, rowNumber, lowFirst, sumTo, heardIn}
 

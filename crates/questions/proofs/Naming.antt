@@ -7,7 +7,7 @@ use lib.ListN.{length, getD}
 use Rattle.laws.specs.Limits.{AllBytes}
 use Rattle.laws.specs.Refusals.{noSuchPlace, tooShort}
 use Rattle.places.specs.Places.{Row, hasName, nameRow, nameLength}
-use Rattle.places.specs.Layout.{placeAt}
+use Rattle.shape.specs.Layout.{placeAt}
 use Rattle.questions.specs.Question.{name-row, name-bytes, value, refusing}
 use Rattle.questions.specs.Fills.{filledTo, valueAt, heardAt, sumTo, numbersFill, bytesFill}
 use Rattle.questions.specs.Replies.{replyAs}

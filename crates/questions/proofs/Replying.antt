@@ -9,10 +9,10 @@ use lib.Dec.{eqb, ltb}
 use lib.ListN.{length}
 use borrow.Author.Tests.{eqb-true, eq-eqb, lt-ltb, le-ltb}
 use Rattle.laws.specs.Refusals.{typeNotKnown, tooShort}
-use Rattle.places.specs.declared.answers.Answer.{Answer}
-use Rattle.places.specs.Limits.{room}
-use Rattle.places.specs.Layout.{size}
-use Rattle.places.specs.Head.{kindIn}
+use Rattle.shape.specs.declared.answers.Answer.{Answer}
+use Rattle.shape.specs.Limits.{room}
+use Rattle.shape.specs.Layout.{size}
+use Rattle.shape.specs.Head.{kindIn}
 use Rattle.questions.specs.Question.{Question, Reply, refusing}
 use Rattle.questions.specs.Replies.{slotAsked, placeReply, replyAs, replyIn, reply}
 

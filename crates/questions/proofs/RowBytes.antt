@@ -8,9 +8,9 @@ use lib.Dec.{eqb, ltb, leb}
 use lib.ListN.{length, set}
 use borrow.Author.Tests.{leb-true, leb-false, le-leb, lt-leb}
 use Rattle.laws.specs.Refusals.{typeNotKnown, noSuchPlace, tooShort}
-use Rattle.places.specs.Limits.{room}
+use Rattle.shape.specs.Limits.{room}
 use Rattle.places.specs.Places.{Row, hasName, nameRow, cellRow}
-use Rattle.places.specs.Head.{short, kindIn}
+use Rattle.shape.specs.Head.{short, kindIn}
 use Rattle.questions.specs.Question.{Question, name-row, name-bytes, memory-row, memory-bytes, value, refusing}
 use Rattle.questions.specs.Fills.{filledTo, filling, rowNumber, lowFirst, numbersFill, bytesFill, heardIn}
 use Rattle.questions.specs.Replies.{slotAsked, replyAs, replyIn, reply}

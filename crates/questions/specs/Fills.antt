@@ -6,7 +6,7 @@ use lib.Dec.{eqb, leb}
 use lib.ListN.{length, getD, set}
 use Rattle.laws.specs.Refusals.{tooShort}
 use Rattle.places.specs.Places.{Row}
-use Rattle.places.specs.Layout.{placeAt}
+use Rattle.shape.specs.Layout.{placeAt}
 use Rattle.questions.specs.Question.{Reply, value, refusing}
 
 -- n numbers that f gives, from the buffer's beginning

@@ -1,8 +1,8 @@
 -- Every question on an address, and what is given back. Assumes nothing.
 use Prim.Native.Nat.{ℕ}
 use mathlib.Core.List.{List}
-use Rattle.places.specs.declared.answers.Answer.{Answer}
-use Rattle.places.specs.declared.answers.Answer.the-variants.{Value, Refused}
+use Rattle.shape.specs.declared.answers.Answer.{Answer}
+use Rattle.shape.specs.declared.answers.Answer.the-variants.{Value, Refused}
 
 -- LEDs, blinds and names are counted from 1, cells by their location
 pub data Question : Type 0 where

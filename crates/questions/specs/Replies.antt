@@ -6,12 +6,12 @@ use mathlib.Core.List.{List}
 use lib.Dec.{eqb, ltb}
 use lib.ListN.{getD}
 use Rattle.laws.specs.Refusals.{typeNotKnown, noSuchPlace, tooShort}
-use Rattle.places.specs.declared.answers.Answer.{Answer}
-use Rattle.places.specs.declared.answers.Answer.the-variants.{Value, NotHeard, Refused}
-use Rattle.places.specs.Limits.{room, addresses}
+use Rattle.shape.specs.declared.answers.Answer.{Answer}
+use Rattle.shape.specs.declared.answers.Answer.the-variants.{Value, NotHeard, Refused}
+use Rattle.shape.specs.Limits.{room, addresses}
 use Rattle.places.specs.Places.{places, yearPlace, weekPlace, cellAsked, ledAsked, blindAsked, hasName, nameRow, cellRow}
-use Rattle.places.specs.Layout.{placeAt}
-use Rattle.places.specs.Head.{short, keptOf, noSlot, slotOf, kindIn}
+use Rattle.shape.specs.Layout.{placeAt}
+use Rattle.shape.specs.Head.{short, keptOf, noSlot, slotOf, kindIn}
 use Rattle.questions.specs.Question.{Question, type-of, build-year, build-week, cell, led, blind, name-row, name-bytes, memory-row, memory-bytes, Reply, answering, value, refusing}
 use Rattle.questions.specs.Fills.{filling, valueAt, numbersFill, bytesFill, heardIn}
 

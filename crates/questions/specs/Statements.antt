@@ -6,7 +6,7 @@ use mathlib.Core.Bool.{cond}
 use lib.Dec.{ltb}
 use lib.ListN.{getD}
 use Rattle.laws.specs.Limits.{AllBytes}
-use Rattle.places.specs.declared.answers.Answer.the-variants.{Value}
+use Rattle.shape.specs.declared.answers.Answer.the-variants.{Value}
 use Rattle.questions.specs.Question.{Question, name-row, name-bytes, memory-row, memory-bytes, Reply}
 use Rattle.questions.specs.Fills.{sumTo}
 use Rattle.questions.specs.Replies.{reply}

@@ -1,11 +1,11 @@
 // What every question goes through: the slot of the address asked for, and what a place holds.
 use frame::Address;
 use laws::wide16;
-use places::ADDRESSES;
-use places::Answer;
-use places::NO_SLOT;
-use places::NOT_HEARD;
-use places::slot_of;
+use shape::ADDRESSES;
+use shape::Answer;
+use shape::NO_SLOT;
+use shape::NOT_HEARD;
+use shape::slot_of;
 ghost use mathlib.Core.Path.{_≡_};
 ghost use Prim.Native.Nat.{_+_, _≤_};
 ghost use lib.ListN.{length};

@@ -9,7 +9,7 @@ use Prim.Native.Nat.{ℕ, _+_, _-_, _≤_, _<_}
 use lib.ListN.{length}
 use borrow.Author.Tests.{lt-ltb, le-ltb, le-leb, lt-leb}
 use Rattle.laws.specs.Refusals.{tooShort}
-use Rattle.places.specs.Layout.{size}
+use Rattle.shape.specs.Layout.{size}
 use Rattle.replay.specs.declared.records.Replayed.the-variants as answered
 use Rattle.replay.specs.declared.window.Part.the-variants as part
 use Rattle.replay.specs.declared.window.Stream.{Stream}

@@ -6,9 +6,9 @@ use lib.Dec.{leb}
 use lib.ListN.{length, take, drop}
 use Rattle.laws.specs.Answers as numbers
 use Rattle.laws.specs.Refusals.{tooShort}
-use Rattle.places.specs.Head.{short}
-use Rattle.places.specs.declared.answers.Outcome.{Outcome}
-use Rattle.places.specs.declared.answers.Outcome.the-variants.{Done, Refused}
+use Rattle.shape.specs.Head.{short}
+use Rattle.shape.specs.declared.answers.Outcome.{Outcome}
+use Rattle.shape.specs.declared.answers.Outcome.the-variants.{Done, Refused}
 use Rattle.picture.specs.Hearing.{hearing}
 use Rattle.recording.specs.declared.records.Entry.{Entry}
 use Rattle.recording.specs.declared.records.Entry.the-variants.{Record, End, Broken}

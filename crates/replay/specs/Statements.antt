@@ -4,7 +4,7 @@ use mathlib.Core.Path.{_≡_}
 use mathlib.Core.List.{List, _++_}
 use lib.ListN.{length, take, drop}
 use Rattle.laws.specs.Refusals.{badNumber}
-use Rattle.places.specs.Layout.{size}
+use Rattle.shape.specs.Layout.{size}
 use Rattle.recording.specs.Limits.{longest}
 use Rattle.replay.specs.declared.records.Replayed.the-variants as answered
 use Rattle.replay.specs.declared.window.Part.the-variants as part

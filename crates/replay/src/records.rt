@@ -1,8 +1,8 @@
 // Hearing the records of a slice.
 use laws::TOO_SHORT;
-use places::Outcome;
-use places::SIZE;
 use recording::Entry;
+use shape::Outcome;
+use shape::SIZE;
 ghost use mathlib.Core.Path.{_≡_};
 ghost use Rattle.picture.specs.Hearing.{hearing};
 ghost use Rattle.replay.specs.Replay.{one, isDone, heardBy, replayed, replayAnswer, replayPicture};

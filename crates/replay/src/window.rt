@@ -2,7 +2,7 @@
 use crate::records::Replay;
 use crate::records::hear_records;
 use laws::TOO_SHORT;
-use places::SIZE;
+use shape::SIZE;
 ghost use mathlib.Core.Path.{_≡_};
 ghost use Prim.Native.Nat.{_+_, _≤_};
 ghost use lib.Dec.{leb};

@@ -5,10 +5,10 @@ use mathlib.Core.List.{List}
 use lib.Dec.{ltb}
 use lib.ListN.{set}
 use Rattle.laws.specs.Refusals.{noSuchPlace, tooShort}
-use Rattle.places.specs.Limits.{mostDepth}
-use Rattle.places.specs.Layout.{depthAt, headSize}
-use Rattle.places.specs.Result.{Result, refusing, done}
-use Rattle.places.specs.Head.{short}
+use Rattle.shape.specs.Limits.{mostDepth}
+use Rattle.shape.specs.Layout.{depthAt, headSize}
+use Rattle.shape.specs.Result.{Result, refusing, done}
+use Rattle.shape.specs.Head.{short}
 
 -- the first n bytes, made 0
 unfoldable pub zeroed : List ℕ → ℕ → List ℕ

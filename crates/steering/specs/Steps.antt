@@ -4,8 +4,8 @@ use mathlib.Core.Bool.{cond}
 use mathlib.Core.List.{List}
 use lib.Dec.{ltb}
 use lib.ListN.{getD, set}
-use Rattle.places.specs.Layout.{keptAt, nextAt}
-use Rattle.places.specs.Head.{keptOf, depthOf}
+use Rattle.shape.specs.Layout.{keptAt, nextAt}
+use Rattle.shape.specs.Head.{keptOf, depthOf}
 
 -- one step more is kept, up to the depth, and the ring moves on
 abbrev pub oneMore : List ℕ → List ℕ

@@ -1,14 +1,14 @@
 // A fresh picture.
 use laws::NO_SUCH_PLACE;
 use laws::TOO_SHORT;
-use places::DEPTH_AT;
-use places::HEAD_SIZE;
-use places::MOST_DEPTH;
-use places::Outcome;
-use places::SIZE;
-use places::put_at;
+use shape::DEPTH_AT;
+use shape::HEAD_SIZE;
+use shape::MOST_DEPTH;
+use shape::Outcome;
+use shape::SIZE;
+use shape::put_at;
 ghost use mathlib.Core.Path.{_≡_};
-ghost use Rattle.places.specs.Layout.{headSize};
+ghost use Rattle.shape.specs.Layout.{headSize};
 ghost use Rattle.steering.specs.Fresh.{zeroed, fresheningWith, freshening};
 
 // The greatest depth that may be named, and the one that naming none gives.

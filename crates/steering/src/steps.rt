@@ -1,10 +1,10 @@
 // One step more is kept.
 use laws::byte_at;
-use places::KEPT_AT;
-use places::NEXT_AT;
-use places::depth_of;
-use places::kept_of;
-use places::put_at;
+use shape::KEPT_AT;
+use shape::NEXT_AT;
+use shape::depth_of;
+use shape::kept_of;
+use shape::put_at;
 ghost use mathlib.Core.Path.{_≡_};
 ghost use Rattle.steering.specs.Steps.{oneMore, stepped};
 

@@ -4,9 +4,9 @@ use bench::Taken;
 use libc::STDERR_FILENO;
 use libc::STDIN_FILENO;
 use libc::STDOUT_FILENO;
-use places::Outcome;
 use recording::Entry;
 use recording::Put;
+use shape::Outcome;
 
 // Where no argument names them: the address, the map version and the build. A cell then holds its own location.
 const ADDRESS: u32 = 0x2A;

@@ -11,10 +11,10 @@ use borrow.Author.Tests.{eqb-true, eqb-false, eq-eqb, ne-eqb, lt-ltb, le-ltb, lt
 use Rattle.laws.specs.Limits.{AllBytes}
 use Rattle.laws.specs.Refusals.{typeNotKnown, tooShort}
 use Rattle.types.specs.Types.{extentOf}
-use Rattle.places.specs.Limits.{room, notHeard}
+use Rattle.shape.specs.Limits.{room, notHeard}
 use Rattle.places.specs.Places.{places, nowhere, cellPlace, cellAsked, cellRow}
-use Rattle.places.specs.Layout.{placeAt}
-use Rattle.places.specs.Head.{short, kindIn}
+use Rattle.shape.specs.Layout.{placeAt}
+use Rattle.shape.specs.Head.{short, kindIn}
 use Rattle.places.proofs.Fitting.{extents-small}
 use Rattle.questions.specs.Question.{Reply, cell, memory-row, refusing}
 use Rattle.questions.specs.Fills.{filledTo, filling, valueAt, rowNumber, numbersFill, sumTo}

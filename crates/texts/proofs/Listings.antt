@@ -14,10 +14,10 @@ use lib.Dec.{leb, eqb}
 use lib.ListN.{length, replicate, length-append}
 use borrow.Author.Tests.{leb-true, leb-false}
 use Rattle.laws.proofs.Choices.{cond-elim}
-use Rattle.places.specs.declared.answers.Answer.{Answer}
-use Rattle.places.specs.declared.answers.Answer.the-variants.{Value, NotHeard, Refused}
+use Rattle.shape.specs.declared.answers.Answer.{Answer}
+use Rattle.shape.specs.declared.answers.Answer.the-variants.{Value, NotHeard, Refused}
 use Rattle.types.specs.Types.{extentOf}
-use Rattle.places.specs.Limits.{addresses}
+use Rattle.shape.specs.Limits.{addresses}
 use Rattle.places.specs.Places.{nameLength}
 use Rattle.questions.specs.Question.{type-of, name-row}
 use Rattle.questions.specs.Fills.{sumTo}

@@ -9,12 +9,12 @@ use lib.Seq.{sets, take-at}
 use borrow.Author.Tests.{eq-eqb, ne-eqb, le-leb, lt-leb}
 use Rattle.laws.specs.Refusals.{tooShort}
 use Rattle.laws.proofs.Stores.{sets-front}
-use Rattle.places.specs.declared.answers.Answer.{Answer}
-use Rattle.places.specs.declared.answers.Answer.the-variants.{Value, NotHeard, Refused}
-use Rattle.places.specs.Limits.{room}
+use Rattle.shape.specs.declared.answers.Answer.{Answer}
+use Rattle.shape.specs.declared.answers.Answer.the-variants.{Value, NotHeard, Refused}
+use Rattle.shape.specs.Limits.{room}
 use Rattle.places.specs.Places.{places, cellRow}
-use Rattle.places.specs.Layout.{size, placeAt}
-use Rattle.places.specs.Head.{kindIn}
+use Rattle.shape.specs.Layout.{size, placeAt}
+use Rattle.shape.specs.Head.{kindIn}
 use Rattle.questions.specs.Question.{Reply, value, refusing}
 use Rattle.questions.specs.Replies.{slotAsked}
 use Rattle.questions.proofs.Extents.{few-cells}

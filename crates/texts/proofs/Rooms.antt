@@ -15,8 +15,8 @@ use borrow.Author.Tests.{lt-ltb, le-ltb, le-leb, lt-leb, leb-true}
 use Rattle.laws.proofs.Choices.{cond-elim}
 use Rattle.laws.specs.Refusals.{tooShort}
 use Rattle.laws.specs.Copies.{copiedIn}
-use Rattle.places.specs.Layout.{size}
-use Rattle.places.specs.Limits.{addresses}
+use Rattle.shape.specs.Layout.{size}
+use Rattle.shape.specs.Limits.{addresses}
 use Rattle.recording.specs.declared.writes.Put.{Put}
 use Rattle.recording.specs.declared.writes.Put.the-variants as put
 use Rattle.replay.specs.declared.window.Stream.{Stream}

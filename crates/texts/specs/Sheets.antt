@@ -4,9 +4,9 @@ use mathlib.Core.List.{List, []}
 use mathlib.Core.Bool.{Bool, false, cond}
 use lib.Dec.{eqb}
 use lib.ListN.{replicate}
-use Rattle.places.specs.declared.answers.Answer.{Answer}
-use Rattle.places.specs.declared.answers.Answer.the-variants.{Value, NotHeard, Refused}
-use Rattle.places.specs.Limits.{notHeard}
+use Rattle.shape.specs.declared.answers.Answer.{Answer}
+use Rattle.shape.specs.declared.answers.Answer.the-variants.{Value, NotHeard, Refused}
+use Rattle.shape.specs.Limits.{notHeard}
 use Rattle.places.specs.Places.{nameLength}
 use Rattle.questions.specs.Question.{cell, name-row}
 use Rattle.questions.specs.Fills.{sumTo}

@@ -3,7 +3,7 @@ use Prim.Native.Nat.{ℕ, _+_, _*_, _≤_}
 use mathlib.Core.Path.{_≡_}
 use mathlib.Core.List.{List, _++_}
 use lib.ListN.{length, take, drop}
-use Rattle.places.specs.Limits.{addresses}
+use Rattle.shape.specs.Limits.{addresses}
 use Rattle.recording.specs.declared.writes.Put.the-variants.{Wrote}
 use Rattle.replay.specs.declared.window.Stream.{Stream}
 use Rattle.texts.specs.Text.{Written, letters}

@@ -1,7 +1,7 @@
 // What the listing counts of a module: its whole names, and its told cells.
-use places::Answer;
-use places::NOT_HEARD;
 use questions::AddressAsked;
+use shape::Answer;
+use shape::NOT_HEARD;
 ghost use mathlib.Core.Path.{_≡_};
 ghost use Prim.Native.Nat.{_+_, _≤_};
 ghost use lib.Dec.{eqb};

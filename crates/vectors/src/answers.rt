@@ -3,8 +3,8 @@ use crate::text::item;
 use crate::text::past;
 use crate::words::TYPES;
 use laws::byte_at;
-use places::Answer;
-use places::NOT_HEARD;
+use shape::Answer;
+use shape::NOT_HEARD;
 
 // The most bytes of an answer in words.
 pub const WORDS: usize = 512;

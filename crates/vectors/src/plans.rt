@@ -12,8 +12,8 @@ use crate::rows::refusal;
 use crate::text::part;
 use crate::words::ROOM;
 use crate::words::Reader;
-use places::Answer;
 use questions::AddressAsked;
+use shape::Answer;
 
 // The plan, into the first n bytes.
 fn fill(picture: &[u8], at: u32, room: &mut [u8], n: usize) -> Answer {

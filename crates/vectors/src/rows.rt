@@ -12,9 +12,9 @@ use crate::text::part;
 use crate::words::ROOM;
 use crate::words::Reader;
 use laws::both;
-use places::Answer;
-use places::NOT_HEARD;
 use questions::AddressAsked;
+use shape::Answer;
+use shape::NOT_HEARD;
 
 // The characters of a name, and the entries of its row where none are named.
 const NAME: usize = 16;

@@ -5,9 +5,9 @@ use mathlib.Core.Bool.{cond}
 use lib.Dec.{leb}
 use Rattle.laws.specs.Refusals.{tooShort}
 use Rattle.laws.specs.Answers.{Numbers, value, refusal}
-use Rattle.places.specs.declared.answers.Outcome.{Outcome}
-use Rattle.places.specs.declared.answers.Answer.{Answer}
-use Rattle.places.specs.Answers.{outcomeNumbers, answerNumbers}
+use Rattle.shape.specs.declared.answers.Outcome.{Outcome}
+use Rattle.shape.specs.declared.answers.Answer.{Answer}
+use Rattle.shape.specs.Answers.{outcomeNumbers, answerNumbers}
 
 -- how many values there are
 abbrev pub values : ℕ

@@ -5,7 +5,7 @@ use questions::AddressAsked;
 use questions::LocationAsked;
 ghost use mathlib.Core.Path.{_≡_};
 ghost use mathlib.Core.List.{[]};
-ghost use Rattle.places.specs.Layout.{size};
+ghost use Rattle.shape.specs.Layout.{size};
 ghost use Rattle.picture.specs.Hearing.{hearing};
 ghost use Rattle.picture.specs.Stepping.{steppingBack};
 ghost use Rattle.steering.specs.Fresh.{fresheningWith, freshening};

@@ -1,8 +1,8 @@
 // The result word: bits 0 to 15 the value; bits 16 to 23 the refusal number; bits 24 to 31 the number of the data byte that a 9 comes with.
 use laws::TOO_SHORT;
-use places::Answer;
-use places::NOT_HEARD;
-use places::Outcome;
+use shape::Answer;
+use shape::NOT_HEARD;
+use shape::Outcome;
 ghost use mathlib.Core.Path.{_≡_};
 ghost use Rattle.velbus.specs.Words.{refusedWord, outcomeWord, answerWord, roomWord};
 

@@ -4,7 +4,7 @@ use mathlib.Core.Path.{sym, _∙_}
 use mathlib.Core.List.{List}
 use borrow.Author.Needs.{needs}
 use lib.ListN.{length, replicate}
-use Rattle.places.specs.Limits.{addresses}
+use Rattle.shape.specs.Limits.{addresses}
 use Rattle.texts.specs.TextStatements.{lineRoom}
 use Rattle.texts.proofs.Rooms.{put-is-inside}
 use Rattle.listing.proofs.put_out.Statement.{statement}

@@ -1,7 +1,7 @@
 -- `planning::put_frames` ends, and is safe. Assumes nothing.
 use borrow.Author.Needs.{needs}
 use Prim.Native.Nat.{_-_}
-use Rattle.places.specs.Limits.{addresses}
+use Rattle.shape.specs.Limits.{addresses}
 use Rattle.planning.proofs.put_frames.Statement.{statement}
 use Rattle.planning.proofs.put_frames.Tie as tie
 

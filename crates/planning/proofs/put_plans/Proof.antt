@@ -1,7 +1,7 @@
 -- `planning::put_plans` ends, and is safe. Assumes nothing.
 use borrow.Author.Needs.{needs}
 use Prim.Native.Nat.{_-_}
-use Rattle.places.specs.Limits.{addresses}
+use Rattle.shape.specs.Limits.{addresses}
 use Rattle.planning.proofs.put_plans.Statement.{statement}
 use Rattle.planning.proofs.put_plans.Tie as tie
 

@@ -1,7 +1,7 @@
 -- `picture::hearing::enter` meets its contract. Assumes nothing.
 use native.Mathlib.Omega.{arith}
 use borrow.Author.Needs.{needs}
-use Rattle.places.specs.Head.{modulesOf}
+use Rattle.shape.specs.Head.{modulesOf}
 use Rattle.picture.specs.Hearing.{enteredBytes}
 use Rattle.picture.proofs.Storing.{next-small}
 use Rattle.picture.proofs.hearing.enter.Statement.{statement}

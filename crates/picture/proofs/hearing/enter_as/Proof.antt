@@ -6,11 +6,11 @@ use mathlib.Core.List.{List}
 use borrow.Author.Tests.{lt-ltb, le-ltb, eq-eqb, ne-eqb}
 use borrow.Author.Needs.{needs}
 use Rattle.laws.specs.Refusals.{noRoom}
-use Rattle.places.specs.declared.answers.Outcome.the-variants.{Refused}
-use Rattle.places.specs.Limits.{room}
+use Rattle.shape.specs.declared.answers.Outcome.the-variants.{Refused}
+use Rattle.shape.specs.Limits.{room}
 use Rattle.places.specs.Runs.{Run}
-use Rattle.places.specs.Result.{refusing}
-use Rattle.places.specs.Head.{modulesOf}
+use Rattle.shape.specs.Result.{refusing}
+use Rattle.shape.specs.Head.{modulesOf}
 use Rattle.picture.specs.Hearing.{naming, entering}
 use Rattle.picture.proofs.hearing.enter_as.Statement.{statement}
 use Rattle.picture.proofs.hearing.enter_as.Tie as tie

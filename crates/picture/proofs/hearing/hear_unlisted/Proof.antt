@@ -5,7 +5,7 @@ use mathlib.Core.List.{List}
 use borrow.Author.Needs.{needs}
 use Rattle.types.specs.Types.{noType}
 use Rattle.frame.specs.declared.identifiers.Address.{Address}
-use Rattle.places.specs.Head.{noSlot, kindIn}
+use Rattle.shape.specs.Head.{noSlot, kindIn}
 use Rattle.picture.specs.Hearing.{naming}
 use Rattle.picture.proofs.Meant.{type-by}
 use Rattle.picture.proofs.Heard.{heard-refused, heard-request, heard-command, type-fits, newcomer-types}

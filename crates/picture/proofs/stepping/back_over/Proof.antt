@@ -4,9 +4,9 @@ use Prim.Native.Nat.{_+_, _%_}
 use mathlib.Core.Path.{_≡_}
 use borrow.Author.Needs.{needs}
 use lib.ListN.{getD}
-use Rattle.places.specs.Limits.{ring}
-use Rattle.places.specs.Layout.{nextAt}
-use Rattle.places.specs.Head.{nextOf, before}
+use Rattle.shape.specs.Limits.{ring}
+use Rattle.shape.specs.Layout.{nextAt}
+use Rattle.shape.specs.Head.{nextOf, before}
 use Rattle.picture.specs.Stepping.{backOver}
 use Rattle.picture.proofs.stepping.back_over.Statement.{statement}
 use Rattle.picture.proofs.stepping.back_over.Tie as tie

@@ -2,7 +2,7 @@
 use borrow.Author.Needs.{needs}
 use mathlib.Core.Path.{ap, _∙_}
 use mathlib.Core.Bool.{Bool}
-use Rattle.places.specs.declared.answers.Answer.the-variants.{Value}
+use Rattle.shape.specs.declared.answers.Answer.the-variants.{Value}
 use Rattle.questions.specs.Question.{Reply}
 use Rattle.plan.specs.Replies.{yesNo}
 use Rattle.plan.proofs.Replying.{short-refused, unlisted-refused, listed-says}

@@ -1,5 +1,5 @@
 -- `questions::names::name_at` meets its contract. Assumes nothing.
-use Rattle.places.specs.Head.{kindIn}
+use Rattle.shape.specs.Head.{kindIn}
 use Rattle.places.proofs.Fitting.{first-small}
 use Rattle.questions.proofs.Extents.{few-names}
 use borrow.Author.Needs.{needs}

@@ -3,7 +3,7 @@ use Prim.Native.Nat.{_≤_, _-_}
 use native.Mathlib.Nat.{le-antisymm}
 use mathlib.Core.Path.{_≡_, refl, ap, _∙_}
 use lib.ListN.{length}
-use Rattle.places.specs.Limits.{addresses}
+use Rattle.shape.specs.Limits.{addresses}
 use Rattle.questions.specs.Fills.{filledTo}
 use Rattle.questions.specs.Replies.{listedIf}
 use Rattle.questions.proofs.Filling.{filled-none, filled-more}

@@ -3,7 +3,7 @@ use Prim.Native.Nat.{ℕ, _*_}
 use mathlib.Core.Path.{refl, ap}
 use Rattle.laws.specs.Limits.{AllBytes}
 use Rattle.places.specs.Places.{cellRow}
-use Rattle.places.specs.Head.{kindIn}
+use Rattle.shape.specs.Head.{kindIn}
 use Rattle.questions.specs.Fills.{bytesFill}
 use Rattle.questions.proofs.Replying.{both-of}
 use Rattle.questions.proofs.Extents.{few-cells}

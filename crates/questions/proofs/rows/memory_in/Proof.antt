@@ -1,7 +1,7 @@
 -- `questions::rows::memory_in` meets its contract. Assumes nothing.
 use mathlib.Core.Path.{refl}
 use Rattle.places.specs.Places.{cellRow}
-use Rattle.places.specs.Head.{kindIn}
+use Rattle.shape.specs.Head.{kindIn}
 use Rattle.questions.specs.Fills.{numbersFill}
 use Rattle.questions.proofs.Replying.{both-of}
 use Rattle.questions.proofs.Extents.{few-cells}

@@ -1,7 +1,7 @@
 -- `replay::records::hear_one` meets its contract. Assumes nothing.
 use mathlib.Core.Path.{ap, sym, _∙_}
 use borrow.Author.Needs.{needs}
-use Rattle.places.specs.declared.answers.Outcome.{Outcome}
+use Rattle.shape.specs.declared.answers.Outcome.{Outcome}
 use Rattle.replay.specs.Replay.{one, isDone, heardBy}
 use Rattle.replay.proofs.records.hear_one.Statement.{statement}
 use Rattle.replay.proofs.records.hear_one.Tie as tie

@@ -5,7 +5,7 @@ use native.Mathlib.Nat.{le-antisymm}
 use mathlib.Core.Path.{_≡_, refl, ap, _∙_}
 use lib.ListN.{length}
 use borrow.Author.Needs.{needs}
-use Rattle.places.specs.Layout.{headSize}
+use Rattle.shape.specs.Layout.{headSize}
 use Rattle.steering.specs.Fresh.{zeroed}
 use Rattle.steering.proofs.Zeroed.{zeroed-none, zeroed-more}
 use Rattle.steering.proofs.clearing.clear_head.Statement.{statement}

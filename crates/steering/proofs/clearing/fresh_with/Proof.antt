@@ -2,7 +2,7 @@
 use native.Mathlib.Omega.{arith}
 use borrow.Author.Tests.{lt-ltb, le-ltb}
 use borrow.Author.Needs.{needs}
-use Rattle.places.specs.Limits.{mostDepth}
+use Rattle.shape.specs.Limits.{mostDepth}
 use Rattle.steering.specs.Fresh.{fresheningWith}
 use Rattle.steering.proofs.clearing.fresh_with.Statement.{statement}
 use Rattle.steering.proofs.clearing.fresh_with.Tie as tie

@@ -5,7 +5,7 @@ use native.Mathlib.Omega.{arith}
 use borrow.Author.Needs.{needs}
 use mathlib.Core.List.{List}
 use lib.ListN.{length, replicate, length-replicate}
-use Rattle.places.specs.Limits.{addresses}
+use Rattle.shape.specs.Limits.{addresses}
 use Rattle.texts.specs.TextStatements.{lineRoom}
 use Rattle.texts.proofs.Listings.{listing-fits}
 use Rattle.texts.proofs.Rooms.{listing-no-room, listing-room, listing-whole, listing-copied}

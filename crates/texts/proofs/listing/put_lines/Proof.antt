@@ -1,7 +1,7 @@
 -- `texts::listing::put_lines` meets its contract. Assumes nothing.
 use borrow.Author.Needs.{needs}
 use mathlib.Core.List.{_++_}
-use Rattle.places.specs.Limits.{addresses}
+use Rattle.shape.specs.Limits.{addresses}
 use Rattle.texts.specs.Text.{Fits}
 use Rattle.texts.specs.Lines.{header, countLine}
 use Rattle.texts.specs.Listing.{modulesText, faultText, listingText}

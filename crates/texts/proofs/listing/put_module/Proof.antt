@@ -3,7 +3,7 @@ use Prim.Native.Nat.{ℕ}
 use mathlib.Core.Path.{_≡_, refl, ap, sym, subst, _∙_}
 use mathlib.Core.List.{List, []}
 use borrow.Author.Needs.{needs}
-use Rattle.places.specs.declared.answers.Answer.{Answer}
+use Rattle.shape.specs.declared.answers.Answer.{Answer}
 use Rattle.questions.specs.Question.{type-of}
 use Rattle.questions.specs.Replies.{reply}
 use Rattle.texts.specs.Text.{Fits, Written}

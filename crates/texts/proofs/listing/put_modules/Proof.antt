@@ -5,7 +5,7 @@ use mathlib.Core.List.{List}
 use native.Mathlib.Omega.{arith}
 use borrow.Author.Needs.{needs}
 use lib.ListN.{length}
-use Rattle.places.specs.Limits.{addresses}
+use Rattle.shape.specs.Limits.{addresses}
 use Rattle.texts.specs.Text.{Written}
 use Rattle.texts.specs.Listing.{modulesText}
 use Rattle.texts.proofs.Texts.{followed, nothing}

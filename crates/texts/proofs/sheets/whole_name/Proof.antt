@@ -1,7 +1,7 @@
 -- `texts::sheets::whole_name` meets its contract. Assumes nothing.
 use mathlib.Core.Path.{ap, sym, _∙_}
 use borrow.Author.Needs.{needs}
-use Rattle.places.specs.declared.answers.Answer.{Answer}
+use Rattle.shape.specs.declared.answers.Answer.{Answer}
 use Rattle.replay.specs.Replay.{one}
 use Rattle.texts.specs.Sheets.{isWhole, wholeName}
 use Rattle.texts.proofs.sheets.whole_name.Statement.{statement}

@@ -1,9 +1,9 @@
--- `places::head::kind_in` meets its contract. Assumes nothing.
+-- `shape::head::kind_in` meets its contract. Assumes nothing.
 use borrow.Author.Tests.{lt-ltb, le-ltb}
 use borrow.Author.Needs.{needs}
-use Rattle.places.specs.Head.{kindIn}
-use Rattle.places.proofs.head.kind_in.Statement.{statement}
-use Rattle.places.proofs.head.kind_in.Tie as tie
+use Rattle.shape.specs.Head.{kindIn}
+use Rattle.shape.proofs.head.kind_in.Statement.{statement}
+use Rattle.shape.proofs.head.kind_in.Tie as tie
 
 returns : tie.Need-returns
 unfolding kindIn

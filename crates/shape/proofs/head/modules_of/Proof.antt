@@ -1,8 +1,8 @@
--- `places::head::modules_of` meets its contract. Assumes nothing.
+-- `shape::head::modules_of` meets its contract. Assumes nothing.
 use borrow.Author.Needs.{needs}
-use Rattle.places.specs.Head.{modulesOf}
-use Rattle.places.proofs.head.modules_of.Statement.{statement}
-use Rattle.places.proofs.head.modules_of.Tie as tie
+use Rattle.shape.specs.Head.{modulesOf}
+use Rattle.shape.proofs.head.modules_of.Statement.{statement}
+use Rattle.shape.proofs.head.modules_of.Tie as tie
 
 returns : tie.Need-returns
 unfolding modulesOf

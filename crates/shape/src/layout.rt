@@ -1,8 +1,8 @@
 // Where each part of a picture lies in the lent bytes. Each number is made of those before it.
-use crate::places::PLACES;
 use frame::Address;
+use places::PLACES;
 ghost use mathlib.Core.Path.{_≡_};
-ghost use Rattle.places.specs.Layout.{slotAt, recordAt, kindAt, placeAt, oldAt, offsetAt};
+ghost use Rattle.shape.specs.Layout.{slotAt, recordAt, kindAt, placeAt, oldAt, offsetAt};
 
 // The most modules, the greatest depth of a way back, and the entries of the log's ring, which are no fewer.
 pub const ROOM: u8 = 16;

@@ -1,11 +1,11 @@
--- `places::head::slot_of` meets its contract. Assumes nothing.
+-- `shape::head::slot_of` meets its contract. Assumes nothing.
 use mathlib.Core.Path.{_≡_, sym, _∙_}
 use lib.ListN.{getD}
 use borrow.Author.Needs.{needs}
-use Rattle.places.specs.Layout.{slotAt}
-use Rattle.places.specs.Head.{slotOf}
-use Rattle.places.proofs.head.slot_of.Statement.{statement}
-use Rattle.places.proofs.head.slot_of.Tie as tie
+use Rattle.shape.specs.Layout.{slotAt}
+use Rattle.shape.specs.Head.{slotOf}
+use Rattle.shape.proofs.head.slot_of.Statement.{statement}
+use Rattle.shape.proofs.head.slot_of.Tie as tie
 
 returns : tie.Need-returns
 unfolding slotOf

@@ -5,8 +5,8 @@ use mathlib.Core.List.{List}
 use lib.Dec.{eqb, ltb}
 use lib.ListN.{length, getD}
 use Rattle.types.specs.Types.{noType}
-use Rattle.places.specs.Limits.{room, ring}
-use Rattle.places.specs.Layout.{countAt, keptAt, nextAt, depthAt, slotAt, recordAt, kindAt, size}
+use Rattle.shape.specs.Limits.{room, ring}
+use Rattle.shape.specs.Layout.{countAt, keptAt, nextAt, depthAt, slotAt, recordAt, kindAt, size}
 
 -- too short for a picture
 abbrev pub short : List ℕ → Bool

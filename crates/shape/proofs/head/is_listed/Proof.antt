@@ -1,4 +1,4 @@
--- `places::head::is_listed` meets its contract. Assumes nothing.
+-- `shape::head::is_listed` meets its contract. Assumes nothing.
 use Prim.Native.Nat.{min}
 use native.Mathlib.Omega.{arith}
 use mathlib.Core.Path.{sym}
@@ -6,11 +6,11 @@ use lib.ListN.{getD}
 use borrow.Author.Tests.{le-ltb}
 use borrow.Author.Needs.{needs}
 use Rattle.laws.proofs.Choices.{same-test}
-use Rattle.places.specs.Limits.{room}
-use Rattle.places.specs.Layout.{countAt}
-use Rattle.places.specs.Head.{modulesOf}
-use Rattle.places.proofs.head.is_listed.Statement.{statement}
-use Rattle.places.proofs.head.is_listed.Tie as tie
+use Rattle.shape.specs.Limits.{room}
+use Rattle.shape.specs.Layout.{countAt}
+use Rattle.shape.specs.Head.{modulesOf}
+use Rattle.shape.proofs.head.is_listed.Statement.{statement}
+use Rattle.shape.proofs.head.is_listed.Tie as tie
 
 returns : tie.Need-returns
 unfolding modulesOf

@@ -1,10 +1,10 @@
 -- What a call on a picture answers, in the paper's numbers. Assumes nothing.
 use Rattle.laws.specs.Answers.{Numbers, value, refusal}
-use Rattle.places.specs.declared.answers.Outcome.{Outcome}
-use Rattle.places.specs.declared.answers.Outcome.the-variants as outcome
-use Rattle.places.specs.declared.answers.Answer.{Answer}
-use Rattle.places.specs.declared.answers.Answer.the-variants as answer
-use Rattle.places.specs.Limits.{notHeard}
+use Rattle.shape.specs.declared.answers.Outcome.{Outcome}
+use Rattle.shape.specs.declared.answers.Outcome.the-variants as outcome
+use Rattle.shape.specs.declared.answers.Answer.{Answer}
+use Rattle.shape.specs.declared.answers.Answer.the-variants as answer
+use Rattle.shape.specs.Limits.{notHeard}
 
 -- to a frame, a step back and a fresh picture
 abbrev pub outcomeNumbers : Outcome → Numbers

@@ -1,9 +1,9 @@
--- `places::head::believed` meets its contract. Assumes nothing.
+-- `shape::head::believed` meets its contract. Assumes nothing.
 use mathlib.Core.Path.{sym, _∙_}
 use borrow.Author.Needs.{needs}
-use Rattle.places.specs.Head.{believed}
-use Rattle.places.proofs.head.believed.Statement.{statement}
-use Rattle.places.proofs.head.believed.Tie as tie
+use Rattle.shape.specs.Head.{believed}
+use Rattle.shape.proofs.head.believed.Statement.{statement}
+use Rattle.shape.proofs.head.believed.Tie as tie
 
 returns : tie.Need-returns
 unfolding believed

@@ -13,7 +13,7 @@ use frame::Address;
 use laws::byte_at;
 ghost use mathlib.Core.Path.{_≡_};
 ghost use lib.Dec.{ltb};
-ghost use Rattle.places.specs.Head.{modulesOf, keptOf, nextOf, depthOf, believed, slotOf, kindIn};
+ghost use Rattle.shape.specs.Head.{modulesOf, keptOf, nextOf, depthOf, believed, slotOf, kindIn};
 
 // The slot of no module, and the type of no module.
 pub const NO_SLOT: u8 = ROOM;

@@ -1,7 +1,7 @@
 -- Where each part of a picture lies in the lent bytes; each number is made of those before it. Assumes nothing.
 use Prim.Native.Nat.{ℕ, _+_, _*_}
-use Rattle.places.specs.Limits.{room, ring, addresses, mostPlaces}
-use Rattle.places.specs.Places.{places}
+use Rattle.shape.specs.Limits.{room, ring, addresses}
+use Rattle.places.specs.Places.{mostPlaces, places}
 
 -- the head: number of modules, count kept, the ring's next entry, the way back's depth, zeros
 abbrev pub countAt : ℕ

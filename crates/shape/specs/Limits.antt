@@ -22,10 +22,6 @@ addresses = 256
 abbrev pub notHeard : ℕ
 notHeard = 256
 
--- the most places that one frame speaks of
-abbrev pub mostPlaces : ℕ
-mostPlaces = 8
-
 -- the address that an identifier holds
 abbrev pub busAddress : ℕ → ℕ
 busAddress identifier = addressOf identifier .0
