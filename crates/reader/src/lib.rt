@@ -1,5 +1,4 @@
 // Velbus frames read as messages.
-mod decoding;
 mod reader;
 
 pub use reader::read;

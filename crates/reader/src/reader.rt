@@ -1,5 +1,5 @@
 // The reader: a frame's message with its address, or the first refusal in document 01's order.
-use crate::decoding::decoded;
+use decoding::decoded;
 use frame::Message;
 use frame::Reading;
 use frame::address_of;

@@ -1,8 +1,8 @@
--- `reader::decoding::type_frame` meets its contract.
+-- `decoding::decoding::type_frame` meets its contract.
 -- Assumes nothing.
 use borrow.Author.Needs.{needs}
-use Rattle.reader.proofs.decoding.type_frame.Statement.{statement}
-use Rattle.reader.proofs.decoding.type_frame.Tie as tie
+use Rattle.decoding.proofs.decoding.type_frame.Statement.{statement}
+use Rattle.decoding.proofs.decoding.type_frame.Tie as tie
 
 returns : tie.Need-returns
 returns c = rw (← c .before .has-long .ensures, c .if1 .taken)

@@ -1,4 +1,4 @@
--- `reader::decoding::decoded` meets its contract.
+-- `decoding::decoding::decoded` meets its contract.
 -- Assumes nothing.
 use mathlib.Core.List.{[]}
 use Rattle.laws.proofs.Keys.{passed-over}
@@ -6,8 +6,8 @@ use Rattle.frame.specs.Messages.{Reader, readers, unlisted}
 use Rattle.frame.specs.Bytes.{bytesOf}
 use mathlib.Core.Path.{sym}
 use borrow.Author.Needs.{needs}
-use Rattle.reader.proofs.decoding.decoded.Statement.{statement}
-use Rattle.reader.proofs.decoding.decoded.Tie as tie
+use Rattle.decoding.proofs.decoding.decoded.Statement.{statement}
+use Rattle.decoding.proofs.decoding.decoded.Tie as tie
 
 returns : tie.Need-returns
 returns c = rw (c .match .keys1)

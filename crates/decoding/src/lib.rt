@@ -1,0 +1,4 @@
+// The message that a frame's data bytes are.
+mod decoding;
+
+pub use decoding::decoded;
