@@ -10,7 +10,7 @@ mod telling;
 
 pub use hearing::hear;
 pub use leds::leds_by;
-pub use places::SIZE;
+pub use shape::SIZE;
 pub use steering::fresh;
 pub use steering::fresh_with;
 pub use stepping::step_back;
