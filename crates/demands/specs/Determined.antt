@@ -19,7 +19,8 @@ use Rattle.replay.specs.declared.window.Stream.{Stream}
 use Rattle.replay.specs.Replay.{replayAnswer, replayPicture}
 use Rattle.replay.specs.Window.{partAnswer, partPicture, partWindow}
 use Rattle.texts.specs.Listing.{listingAnswer, listingBytes}
-use Rattle.bench.specs.Taking.{making, Outcome, taking}
+use Rattle.bench.specs.Making.{making}
+use Rattle.taking.specs.Taking.{Outcome, taking}
 use Rattle.velbus.specs.Words.{outcomeWord, answerWord}
 use Rattle.velbus.specs.Benches.{takenWord}
 use Rattle.velbus.specs.Recordings.{putWord}

@@ -1,12 +1,12 @@
 // A bench module to teach on, for the classroom: reads a recording of commands from standard input, and writes to standard output a recording of the
 // commands that the bench took, each with the bench's replies after it. A command that is refused is told on standard error, and is not written.
-use bench::Taken;
 use libc::STDERR_FILENO;
 use libc::STDIN_FILENO;
 use libc::STDOUT_FILENO;
 use places::Outcome;
 use recording::Entry;
 use recording::Put;
+use taking::Taken;
 
 // Where no argument names them: the address, the map version and the build. A cell then holds its own location.
 const ADDRESS: u32 = 0x2A;
@@ -173,7 +173,7 @@ fn command(
     data: &[u8],
 ) -> bool {
     let mut replies = [0u8; REPLIES];
-    match bench::bench_take(bench, identifier, remote, data, &mut replies) {
+    match taking::bench_take(bench, identifier, remote, data, &mut replies) {
         Taken::Replies(count) => {
             let mut out = io::buffer();
             let first = put_after(&mut out, 0, gap, identifier, remote, data);
