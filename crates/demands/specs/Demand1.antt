@@ -29,8 +29,8 @@ use Rattle.plan.specs.Replies.{memoryIn, planReply, planBytesReply, rightAnswer
 use Rattle.taking.specs.declared.taking.Taken.{Taken}
 use Rattle.bench.specs.Making.{making}
 use Rattle.taking.specs.Taking.{takenNumbers, taking}
-use Rattle.recording.specs.declared.writes.Put.{Put}
-use Rattle.recording.specs.Write.{recordBytes, putNumbers, putAnswer, putBytes}
+use Rattle.recorder.specs.declared.writes.Put.{Put}
+use Rattle.recorder.specs.Write.{recordBytes, putNumbers, putAnswer, putBytes}
 use Rattle.recording.specs.Statements.{RecordsAreWhole, FaultsArePlaced, FaultIsCertain, CutCanBeMended, MendableIsCut, WindowSettles, OldRecordingsRead}
 use Rattle.replay.specs.declared.records.Replayed.{Replayed}
 use Rattle.replay.specs.declared.window.Part.{Part}

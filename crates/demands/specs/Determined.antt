@@ -14,7 +14,7 @@ use Rattle.questions.specs.Question.{Question, Reply}
 use Rattle.questions.specs.Replies.{listing, reply}
 use Rattle.plan.specs.Replies.{planReply, planBytesReply}
 use Rattle.numbers.specs.Write.{putGroups, putInto}
-use Rattle.recording.specs.Write.{putAnswer, putBytes}
+use Rattle.recorder.specs.Write.{putAnswer, putBytes}
 use Rattle.replay.specs.declared.window.Stream.{Stream}
 use Rattle.replay.specs.Replay.{replayAnswer, replayPicture}
 use Rattle.replay.specs.Window.{partAnswer, partPicture, partWindow}

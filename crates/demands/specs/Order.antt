@@ -27,7 +27,8 @@ use Rattle.bench.specs.Making.{namedCells}
 use Rattle.bench.specs.Deeds.{done}
 use Rattle.replies.specs.Replies.{replies}
 use Rattle.verdicts.specs.Verdicts.{sentOnly}
-use Rattle.recording.specs.Write.{inRange, recordBytes}
+use Rattle.recording.specs.Limits.{inRange}
+use Rattle.recorder.specs.Write.{recordBytes}
 use Rattle.codec.specs.Writing.{frameSize}
 use Rattle.layouts.specs.declared.parts.Held.{Held}
 use Rattle.layouts.specs.declared.parts.Held.the-variants.{Holds, Nothing}

@@ -3,7 +3,7 @@ use libc::STDERR_FILENO;
 use libc::STDIN_FILENO;
 use libc::STDOUT_FILENO;
 use places::Outcome;
-use recording::Put;
+use recorder::Put;
 use replay::Part;
 use replay::Stream;
 use texts::LISTING_ROOM;

@@ -34,7 +34,7 @@ use Rattle.recording.specs.Window.{settled}
 use Rattle.numbers.proofs.Reading.{different, Fits, number-last, value-at, bad-at, ends-at}
 use Rattle.numbers.specs.Statements.{isBad}
 use Rattle.numbers.proofs.Spelling.{more-is-allowed}
-use Rattle.recording.proofs.Writing.{in-range, gap-groups, word-groups, count-groups}
+use Rattle.recording.proofs.Ranges.{in-range, gap-groups, word-groups, count-groups}
 
 pub found : (s : List ℕ) (at : ℕ) (rest : ℕ → ℕ → Entry) {read r n : Found} → read ≡ r → read ≡ n → after s at r rest ≡ after s at n rest
 found s at rest e f = ap (λ (n : Found). after s at n rest) (sym e ∙ f)

@@ -26,7 +26,7 @@ use Rattle.recording.specs.Statements.{FaultIsCertain, MendableIsCut}
 use Rattle.numbers.proofs.Reading.{different, bad-at}
 use Rattle.numbers.proofs.Parts.{cond-moves, cutNumber, number-at-cut, Past, number-past}
 use Rattle.recording.proofs.Windows.{window-settles}
-use Rattle.recording.proofs.Writing.{gap-groups}
+use Rattle.recording.proofs.Ranges.{gap-groups}
 use Rattle.recording.proofs.Entries.{entry-elim}
 
 -- an entry, where only the bytes before the offset `end` are read

@@ -24,7 +24,7 @@ use Rattle.recording.specs.Window.{settled, isRecord}
 use Rattle.recording.specs.Statements.{CutCanBeMended}
 use Rattle.numbers.proofs.Reading.{different, number-last, value-at}
 use Rattle.numbers.proofs.Parts.{number-stays, Ended, number-mends}
-use Rattle.recording.proofs.Writing.{gap-groups, word-groups, count-groups}
+use Rattle.recording.proofs.Ranges.{gap-groups, word-groups, count-groups}
 use Rattle.recording.proofs.Entries.{faults-are-placed}
 
 module _ (s : List ℕ) where

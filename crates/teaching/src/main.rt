@@ -4,8 +4,8 @@ use libc::STDERR_FILENO;
 use libc::STDIN_FILENO;
 use libc::STDOUT_FILENO;
 use places::Outcome;
+use recorder::Put;
 use recording::Entry;
-use recording::Put;
 use taking::Taken;
 
 // Where no argument names them: the address, the map version and the build. A cell then holds its own location.
@@ -119,7 +119,7 @@ fn put_after(
     remote: u32,
     data: &[u8],
 ) -> usize {
-    let Put::Wrote(n) = recording::put_record(out, at, gap, identifier, remote, data) else {
+    let Put::Wrote(n) = recorder::put_record(out, at, gap, identifier, remote, data) else {
         return at;
     };
     std::num::wrapping_add_usize(at, n)

@@ -17,8 +17,8 @@ use Rattle.laws.specs.Refusals.{tooShort}
 use Rattle.laws.specs.Copies.{copiedIn}
 use Rattle.places.specs.Layout.{size}
 use Rattle.places.specs.Limits.{addresses}
-use Rattle.recording.specs.declared.writes.Put.{Put}
-use Rattle.recording.specs.declared.writes.Put.the-variants as put
+use Rattle.recorder.specs.declared.writes.Put.{Put}
+use Rattle.recorder.specs.declared.writes.Put.the-variants as put
 use Rattle.replay.specs.declared.window.Stream.{Stream}
 use Rattle.texts.specs.Text.{Fits, Written}
 use Rattle.texts.specs.Listing.{listingText, listingAnswer, listingBytes}

@@ -12,7 +12,7 @@ use places::ADDRESSES;
 use places::Answer;
 use places::SIZE;
 use questions::AddressAsked;
-use recording::Put;
+use recorder::Put;
 use replay::Stream;
 ghost use mathlib.Core.Path.{_≡_};
 ghost use Prim.Native.Nat.{_≤_};

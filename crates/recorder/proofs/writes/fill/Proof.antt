@@ -1,13 +1,14 @@
--- `recording::writes::fill` meets its contract. Assumes nothing.
+-- `recorder::writes::fill` meets its contract. Assumes nothing.
 use Prim.Native.Nat.{_+_}
 use mathlib.Core.Path.{_∙_}
 use native.Mathlib.Omega.{arith}
 use borrow.Author.Needs.{needs}
 use lib.ListN.{length, set, length-set}
 use Rattle.laws.proofs.Copying.{copied-all}
-use Rattle.recording.proofs.Writing.{ranged, record-length, Headed, head-put, sets-record}
-use Rattle.recording.proofs.writes.fill.Statement.{statement}
-use Rattle.recording.proofs.writes.fill.Tie as tie
+use Rattle.recording.proofs.Ranges.{ranged}
+use Rattle.recorder.proofs.Writing.{record-length, Headed, head-put, sets-record}
+use Rattle.recorder.proofs.writes.fill.Statement.{statement}
+use Rattle.recorder.proofs.writes.fill.Tie as tie
 
 mul-put-number : tie.Need-mul-put-number
 mul-put-number c =

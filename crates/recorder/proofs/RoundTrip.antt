@@ -13,21 +13,22 @@ use borrow.Author.Tests.{lt-ltb, le-leb, leb-true}
 use Rattle.laws.proofs.Stores.{drop-after}
 use Rattle.numbers.specs.declared.reads.Found.{Found}
 use Rattle.numbers.specs.declared.reads.Found.the-variants.{Value}
 use Rattle.recording.specs.declared.records.Entry.{Entry}
 use Rattle.recording.specs.declared.records.Entry.the-variants.{Record, End, Broken}
-use Rattle.recording.specs.declared.writes.Put.{Put}
-use Rattle.recording.specs.declared.writes.Put.the-variants.{Wrote, Refused}
+use Rattle.recorder.specs.declared.writes.Put.{Put}
+use Rattle.recorder.specs.declared.writes.Put.the-variants.{Wrote, Refused}
 use Rattle.laws.specs.Refusals.{tooShort, badNumber}
-use Rattle.recording.specs.Limits.{mostGap, mostWord, mostCount}
+use Rattle.recording.specs.Limits.{mostGap, mostWord, mostCount, inRange}
 use Rattle.numbers.specs.Number.{mostGroups, bytesOf, groupsOf, numberAt}
 use Rattle.recording.specs.Record.{after, readData, readCount, readWord, readWithin, readRecord}
-use Rattle.recording.specs.Write.{inRange, recordBytes, putAnswer, putBytes, placed}
+use Rattle.recorder.specs.Write.{recordBytes, putAnswer, putBytes, placed}
 use Rattle.laws.specs.Limits.{AllBytes}
-use Rattle.recording.specs.Statements.{StandsAt, BytesReadBack, WrittenIsRead, ReadIsWritten}
+use Rattle.recorder.specs.Statements.{StandsAt, BytesReadBack, WrittenIsRead, ReadIsWritten}
 use Rattle.numbers.proofs.Writing.{bytes-last}
 use Rattle.numbers.proofs.Spelling.{read-at, read-is-spelt}
-use Rattle.recording.proofs.Writing.{record-length, Ranged, ranged, put-done}
+use Rattle.recorder.proofs.Writing.{record-length, put-done}
+use Rattle.recording.proofs.Ranges.{Ranged, ranged}
 use Rattle.recording.proofs.Entries.{entry-elim, records-are-whole}
 
 -- where a record's bytes stand at `at`, and q after them, the record is read
 module _ (s : List ℕ) (at gap identifier remote : ℕ) (ds q : List ℕ) (fits : inRange gap identifier remote (length ds) ≡ true)

@@ -1,20 +1,15 @@
 -- What writing a record gives: the answer, and the buffer's bytes.
 use Prim.Native.Nat.{ℕ, _+_, _*_}
 use mathlib.Core.List.{List, _∷_, _++_}
-use mathlib.Core.Bool.{Bool, cond, _&&_}
+use mathlib.Core.Bool.{Bool, cond}
 use lib.Dec.{leb}
 use lib.ListN.{length, take, drop}
-use Rattle.recording.specs.declared.writes.Put.{Put}
-use Rattle.recording.specs.declared.writes.Put.the-variants.{Wrote, Refused}
+use Rattle.recorder.specs.declared.writes.Put.{Put}
+use Rattle.recorder.specs.declared.writes.Put.the-variants.{Wrote, Refused}
 use Rattle.laws.specs.Answers.{Numbers, value, refusal}
 use Rattle.laws.specs.Refusals.{tooShort, badNumber}
-use Rattle.laws.specs.Limits.{mostIdentifier}
-use Rattle.recording.specs.Limits.{mostGap, mostRemote, mostCount}
+use Rattle.recording.specs.Limits.{inRange}
 use Rattle.numbers.specs.Number.{bytesOf}
-
--- every number of a record is in its range
-unfoldable pub inRange : ℕ → ℕ → ℕ → ℕ → Bool
-inRange gap identifier remote count = leb gap mostGap && (leb identifier mostIdentifier && (leb remote mostRemote && leb count mostCount))
 
 -- the bytes of a record
 unfoldable pub recordBytes : ℕ → ℕ → ℕ → List ℕ → List ℕ

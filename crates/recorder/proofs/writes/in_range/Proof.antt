@@ -1,13 +1,12 @@
--- `recording::writes::in_range` meets its contract. Assumes nothing.
+-- `recorder::writes::in_range` meets its contract. Assumes nothing.
 use mathlib.Core.Path.{sym}
 use native.Mathlib.Omega.{arith}
 use borrow.Author.Tests.{le-leb, lt-leb}
 use Rattle.laws.specs.Limits.{mostIdentifier}
-use Rattle.recording.specs.Limits.{mostGap, mostRemote, mostCount}
-use Rattle.recording.specs.Write.{inRange}
-use Rattle.recording.proofs.Writing.{in-range}
-use Rattle.recording.proofs.writes.in_range.Statement.{statement}
-use Rattle.recording.proofs.writes.in_range.Tie as tie
+use Rattle.recording.specs.Limits.{mostGap, mostRemote, mostCount, inRange}
+use Rattle.recording.proofs.Ranges.{in-range}
+use Rattle.recorder.proofs.writes.in_range.Statement.{statement}
+use Rattle.recorder.proofs.writes.in_range.Tie as tie
 
 returns : tie.Need-returns
 unfolding inRange

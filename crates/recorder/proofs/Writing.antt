@@ -1,7 +1,5 @@
 -- Laws of writing.
 --     record-length                              how many bytes a record has
---     gap-groups, word-groups, count-groups      how many groups its greatest numbers take
---     ranged                                     what a test of the ranges says
 --     Headed, head-put                           what writing the first two numbers leaves
 --     sets-record                                a run of stores in the parts that a record has
 --     put-out-of-range, put-no-room, put-done    what writing gives, case by case
@@ -14,19 +12,16 @@ use native.Mathlib.Numerals.{add-one}
 use native.Mathlib.Omega.{arith}
 use lib.ListN.{length, set, length-append}
 use lib.Seq.{sets}
-use lib.Dec.{leb}
-use borrow.Author.Tests.{le-leb, lt-leb, leb-true}
-use Rattle.laws.proofs.Testing.{and-both}
+use borrow.Author.Tests.{le-leb, lt-leb}
 use Rattle.laws.proofs.Stores.{sets-append}
-use Rattle.recording.specs.declared.writes.Put.{Put}
-use Rattle.recording.specs.declared.writes.Put.the-variants.{Wrote, Refused}
+use Rattle.recorder.specs.declared.writes.Put.{Put}
+use Rattle.recorder.specs.declared.writes.Put.the-variants.{Wrote, Refused}
 use Rattle.laws.specs.Refusals.{tooShort, badNumber}
-use Rattle.laws.specs.Limits.{mostIdentifier}
-use Rattle.recording.specs.Limits.{mostGap, gapGroups, mostWord, wordGroups, mostRemote, mostCount, countGroups}
-use Rattle.numbers.specs.Number.{numberBytes, bytesOf, groupsOf}
+use Rattle.numbers.specs.Number.{bytesOf, groupsOf}
 use Rattle.numbers.specs.Write.{putGroups, putInto}
 use Rattle.numbers.proofs.Writing.{put-fits}
-use Rattle.recording.specs.Write.{inRange, recordBytes, putAnswer, putBytes, placed}
+use Rattle.recording.specs.Limits.{inRange}
+use Rattle.recorder.specs.Write.{recordBytes, putAnswer, putBytes, placed}
 
 pub record-length : (gap identifier remote : ℕ) (ds : List ℕ)
     → length (recordBytes gap identifier remote ds) ≡ length (bytesOf gap) + (length (bytesOf (2 * identifier + remote)) + suc (length ds))
@@ -34,37 +29,6 @@ unfolding recordBytes
 record-length gap identifier remote ds =
     length-append (bytesOf gap) (bytesOf (2 * identifier + remote) ++ (length ds ∷ ds))
     ∙ ap (λ (n : ℕ). length (bytesOf gap) + n) (length-append (bytesOf (2 * identifier + remote)) (length ds ∷ ds))
-
-pub gap-groups : groupsOf mostGap ≡ gapGroups
-unfolding numberBytes
-gap-groups = refl
-
-pub word-groups : groupsOf mostWord ≡ wordGroups
-unfolding numberBytes
-word-groups = refl
-
-pub count-groups : groupsOf mostCount ≡ countGroups
-unfolding numberBytes
-count-groups = refl
-
-pub record Ranged (gap identifier remote count : ℕ) : Type 0 where
-  pub gap-fits : gap ≤ mostGap
-  pub identifier-fits : identifier ≤ mostIdentifier
-  pub remote-fits : remote ≤ mostRemote
-  pub few : count ≤ mostCount
-
-pub ranged : (gap identifier remote count : ℕ) → inRange gap identifier remote count ≡ true → Ranged gap identifier remote count
-unfolding inRange
-ranged gap identifier remote count e =
-    let p = and-both (leb gap mostGap) _ e in
-    let q = and-both (leb identifier mostIdentifier) _ (p .1) in
-    let r = and-both (leb remote mostRemote) _ (q .1) in
-    record { gap-fits = leb-true _ _ (p .0); identifier-fits = leb-true _ _ (q .0); remote-fits = leb-true _ _ (r .0); few = leb-true _ _ (r .1) }
-
-pub in-range : (gap identifier remote count : ℕ) → Ranged gap identifier remote count → inRange gap identifier remote count ≡ true
-unfolding inRange
-in-range gap identifier remote count w =
-    rw (le-leb gap mostGap (w .gap-fits), le-leb identifier mostIdentifier (w .identifier-fits), le-leb remote mostRemote (w .remote-fits), le-leb count mostCount (w .few))
 
 -- what writing the first two numbers leaves, where the record has room: the counts of their groups a and n, the buffers o₁ and o₂
 pub record Headed (out : List ℕ) (gap identifier remote count a n : ℕ) (o₁ o₂ : List ℕ) : Type 0 where

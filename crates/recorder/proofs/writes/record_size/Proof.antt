@@ -1,13 +1,14 @@
--- `recording::writes::record_size` meets its contract. Assumes nothing.
+-- `recorder::writes::record_size` meets its contract. Assumes nothing.
 use Prim.Native.Nat.{_+_, _*_}
 use native.Mathlib.Omega.{arith}
 use borrow.Author.Needs.{needs}
 use lib.ListN.{length}
 use Rattle.numbers.specs.Number.{mostGroups}
 use Rattle.numbers.proofs.Writing.{bytes-length}
-use Rattle.recording.proofs.Writing.{ranged, record-length}
-use Rattle.recording.proofs.writes.record_size.Statement.{statement}
-use Rattle.recording.proofs.writes.record_size.Tie as tie
+use Rattle.recording.proofs.Ranges.{ranged}
+use Rattle.recorder.proofs.Writing.{record-length}
+use Rattle.recorder.proofs.writes.record_size.Statement.{statement}
+use Rattle.recorder.proofs.writes.record_size.Tie as tie
 
 mul-number-size : tie.Need-mul-number-size
 mul-number-size c =

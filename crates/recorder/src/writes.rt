@@ -1,17 +1,18 @@
 // The writer of records.
-use crate::limits::MOST_COUNT;
-use crate::limits::MOST_GAP;
-use crate::limits::MOST_REMOTE;
 use laws::MOST_IDENTIFIER;
 use laws::copy_in;
 use numbers::number_size;
 use numbers::put_number;
+use recording::MOST_COUNT;
+use recording::MOST_GAP;
+use recording::MOST_REMOTE;
 ghost use mathlib.Core.Bool.{true};
 ghost use mathlib.Core.Path.{_≡_};
 ghost use Prim.Native.Nat.{_≤_};
 ghost use lib.ListN.{length};
 ghost use lib.Seq.{sets};
-ghost use Rattle.recording.specs.Write.{inRange, recordBytes, putAnswer, putBytes};
+ghost use Rattle.recording.specs.Limits.{inRange};
+ghost use Rattle.recorder.specs.Write.{recordBytes, putAnswer, putBytes};
 
 // How many bytes were written, or the refusal's number.
 pub enum Put {

@@ -1,4 +1,4 @@
--- `recording::writes::put_record` meets its contract. Assumes nothing.
+-- `recorder::writes::put_record` meets its contract. Assumes nothing.
 use Prim.Native.Nat.{_+_, _≤_}
 use mathlib.Core.Path.{ap, sym, _∙_}
 use native.Mathlib.Omega.{arith}
@@ -6,11 +6,11 @@ use borrow.Author.Needs.{needs}
 use borrow.Author.Tests.{not-true, not-false}
 use lib.ListN.{length, length-take, length-drop}
 use Rattle.laws.proofs.Stores.{stored-in-part}
-use Rattle.recording.specs.declared.writes.Put.the-variants.{Wrote}
-use Rattle.recording.specs.Write.{recordBytes}
-use Rattle.recording.proofs.Writing.{put-out-of-range, put-no-room, put-done}
-use Rattle.recording.proofs.writes.put_record.Statement.{statement}
-use Rattle.recording.proofs.writes.put_record.Tie as tie
+use Rattle.recorder.specs.declared.writes.Put.the-variants.{Wrote}
+use Rattle.recorder.specs.Write.{recordBytes}
+use Rattle.recorder.proofs.Writing.{put-out-of-range, put-no-room, put-done}
+use Rattle.recorder.proofs.writes.put_record.Statement.{statement}
+use Rattle.recorder.proofs.writes.put_record.Tie as tie
 
 returns : tie.Need-returns
 returns c =
