@@ -24,7 +24,7 @@ use Rattle.picture.specs.Stepping.{steppingBack}
 use Rattle.steering.specs.Fresh.{fresheningWith, freshening}
 use Rattle.questions.specs.Question.{Question, Reply}
 use Rattle.questions.specs.Replies.{slotAsked, keptAnswer, listing, reply}
-use Rattle.plan.specs.Plan.{leastReads}
+use Rattle.reads.specs.Plan.{leastReads}
 use Rattle.plan.specs.Replies.{memoryIn, planReply, planBytesReply, rightAnswer, rightBytesAnswer}
 use Rattle.taking.specs.declared.taking.Taken.{Taken}
 use Rattle.bench.specs.Making.{making}

@@ -1,9 +1,7 @@
 // The plan, written into a lent list.
-use crate::cells::BLOCK;
 use crate::cells::least;
 use crate::cells::memory_at;
 use crate::cells::next_unknown;
-use crate::cells::start_for;
 use laws::TOO_SHORT;
 use laws::TYPE_NOT_KNOWN;
 use places::Answer;
@@ -12,6 +10,8 @@ use places::SIZE;
 use questions::AddressAsked;
 use questions::cells_in;
 use questions::slot_asked;
+use reads::BLOCK;
+use reads::start_for;
 ghost use mathlib.Core.Path.{_≡_};
 ghost use mathlib.Core.List.{_++_};
 ghost use Prim.Native.Nat.{_+_, _*_, _<_, _≤_};
@@ -20,7 +20,7 @@ ghost use lib.ListN.{length, drop};
 ghost use Rattle.places.specs.Limits.{room};
 ghost use Rattle.places.specs.Layout.{size};
 ghost use Rattle.questions.specs.Statements.{inBytes};
-ghost use Rattle.plan.specs.Plan.{planOf, leastReads};
+ghost use Rattle.reads.specs.Plan.{planOf, leastReads};
 ghost use Rattle.plan.specs.Replies.{rowAt, memoryIn, asEntries, laid, planReply, planBytesReply};
 
 // Whether a list of so many entries holds the plan. One with an entry for each block of cells always does, so that the reads need not be counted first.

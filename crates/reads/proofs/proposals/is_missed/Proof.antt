@@ -1,10 +1,10 @@
--- `plan::judges::is_missed` meets its contract. Assumes nothing.
+-- `reads::proposals::is_missed` meets its contract. Assumes nothing.
 use borrow.Author.Needs.{needs}
 use native.Mathlib.Omega.{arith}
 use mathlib.Core.Path.{sym}
-use Rattle.plan.proofs.Judging.{missed-known, missed-unknown}
-use Rattle.plan.proofs.judges.is_missed.Statement.{statement}
-use Rattle.plan.proofs.judges.is_missed.Tie as tie
+use Rattle.reads.proofs.Judging.{missed-known, missed-unknown}
+use Rattle.reads.proofs.proposals.is_missed.Statement.{statement}
+use Rattle.reads.proofs.proposals.is_missed.Tie as tie
 
 returns : tie.Need-returns
 returns c =

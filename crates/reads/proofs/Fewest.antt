@@ -11,10 +11,10 @@ use lib.ListN.{length}
 use lib.Dec.{leb}
 use borrow.Author.Tests.{le-leb, lt-leb, leb-true, eqb-true, eqb-false}
 use Rattle.places.specs.Limits.{notHeard}
-use Rattle.plan.specs.Reads.{Unknown, lastStartOf, Reads, AllLegal, ReadBy, Covers}
-use Rattle.plan.specs.Plan.{unknown, startFor, withRead, planFrom, planOf, leastReads}
-use Rattle.plan.specs.Statements.{PlanIsRight, CountIsLeast, NothingUnknown, QuarterIsEnough}
-use Rattle.plan.proofs.Steps.{inside}
+use Rattle.reads.specs.Reads.{Unknown, lastStartOf, Reads, AllLegal, ReadBy, Covers}
+use Rattle.reads.specs.Plan.{unknown, startFor, withRead, planFrom, planOf, leastReads}
+use Rattle.reads.specs.Statements.{PlanIsRight, CountIsLeast, NothingUnknown, QuarterIsEnough}
+use Rattle.reads.proofs.Steps.{inside}
 
 -- ---- every start is legal
 legal-go : (b : Bool) (row : List ℕ) (cell : ℕ) (more : List ℕ) → AllLegal row more → AllLegal row (withRead b (startFor (length row) cell) more)

@@ -1,9 +1,9 @@
--- `plan::judges::reads_cell` meets its contract. Assumes nothing.
+-- `reads::proposals::reads_cell` meets its contract. Assumes nothing.
 use native.Mathlib.Omega.{arith}
 use mathlib.Core.Path.{sym}
-use Rattle.plan.proofs.Judging.{reads-below, reads-beyond, reads-here}
-use Rattle.plan.proofs.judges.reads_cell.Statement.{statement}
-use Rattle.plan.proofs.judges.reads_cell.Tie as tie
+use Rattle.reads.proofs.Judging.{reads-below, reads-beyond, reads-here}
+use Rattle.reads.proofs.proposals.reads_cell.Statement.{statement}
+use Rattle.reads.proofs.proposals.reads_cell.Tie as tie
 
 returns : tie.Need-returns
 returns c = let a = c .before .args in sym (reads-below (a .start) (a .cell) (c .if1 .taken))

@@ -1,12 +1,12 @@
--- `plan::judges::read_by` meets its contract. Assumes nothing.
+-- `reads::proposals::read_by` meets its contract. Assumes nothing.
 use borrow.Author.Needs.{needs}
 use Prim.Native.Nat.{_-_}
 use mathlib.Core.Path.{_≡_, refl, sym, _∙_}
 use lib.ListN.{length, drop}
-use Rattle.plan.specs.Judging.{readBy}
-use Rattle.plan.proofs.Judging.{read-end, read-stop, read-on}
-use Rattle.plan.proofs.judges.read_by.Statement.{statement}
-use Rattle.plan.proofs.judges.read_by.Tie as tie
+use Rattle.reads.specs.Judging.{readBy}
+use Rattle.reads.proofs.Judging.{read-end, read-stop, read-on}
+use Rattle.reads.proofs.proposals.read_by.Statement.{statement}
+use Rattle.reads.proofs.proposals.read_by.Tie as tie
 
 abbrev Inv-loop : tie.InvT-loop
 Inv-loop starts cell i₀ i = readBy starts cell ≡ readBy (drop i starts) cell

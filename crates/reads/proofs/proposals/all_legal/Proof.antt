@@ -1,13 +1,13 @@
--- `plan::judges::all_legal` meets its contract. Assumes nothing.
+-- `reads::proposals::all_legal` meets its contract. Assumes nothing.
 use borrow.Author.Needs.{needs}
 use native.Mathlib.Omega.{arith}
 use Prim.Native.Nat.{_-_}
 use mathlib.Core.Path.{_≡_, refl, sym, _∙_}
 use lib.ListN.{length, drop}
-use Rattle.plan.specs.Judging.{allLegal}
-use Rattle.plan.proofs.Judging.{legal-end, legal-stop, legal-on}
-use Rattle.plan.proofs.judges.all_legal.Statement.{statement}
-use Rattle.plan.proofs.judges.all_legal.Tie as tie
+use Rattle.reads.specs.Judging.{allLegal}
+use Rattle.reads.proofs.Judging.{legal-end, legal-stop, legal-on}
+use Rattle.reads.proofs.proposals.all_legal.Statement.{statement}
+use Rattle.reads.proofs.proposals.all_legal.Tie as tie
 
 abbrev Inv-loop : tie.InvT-loop
 Inv-loop cells starts last i₀ i = allLegal cells starts ≡ allLegal cells (drop i starts)

@@ -9,11 +9,11 @@ use mathlib.Core.List.{List, [], _∷_}
 use lib.ListN.{length, getD, drop}
 use borrow.Author.Tests.{eqb-true, eqb-false}
 use Rattle.places.specs.Limits.{notHeard}
-use Rattle.plan.specs.Reads.{Unknown, lastStartOf, ReadBy}
-use Rattle.plan.specs.Plan.{unknown, startFor, withRead, planFrom, planOf}
-use Rattle.plan.specs.Statements.{Rising, LowestUnread, AsAsked, PlanRises, PlanAsAsked, OnlyPlan}
-use Rattle.plan.proofs.Steps.{inside, next-cell, this-cell, in-row}
-use Rattle.plan.proofs.Fewest.{plan-is-right}
+use Rattle.reads.specs.Reads.{Unknown, lastStartOf, ReadBy}
+use Rattle.reads.specs.Plan.{unknown, startFor, withRead, planFrom, planOf}
+use Rattle.reads.specs.Statements.{Rising, LowestUnread, AsAsked, PlanRises, PlanAsAsked, OnlyPlan}
+use Rattle.reads.proofs.Steps.{inside, next-cell, this-cell, in-row}
+use Rattle.reads.proofs.Fewest.{plan-is-right}
 
 -- ---- the starts rise
 abbrev Above : ℕ → List ℕ → Type 0

@@ -11,8 +11,8 @@ use lib.ListN.{length, getD, drop, length-drop, drop-of-length-le, List·getD-eq
 use lib.Seq.{drop-cons, drop-drop, getD-drop}
 use borrow.Author.Tests.{eq-eqb, ne-eqb, eqb-true}
 use Rattle.places.specs.Limits.{notHeard}
-use Rattle.plan.specs.Reads.{Unknown}
-use Rattle.plan.specs.Plan.{unknown, startFor, planFrom, planOf, leastReads, nextUnknown}
+use Rattle.reads.specs.Reads.{Unknown}
+use Rattle.reads.specs.Plan.{unknown, startFor, planFrom, planOf, leastReads, nextUnknown}
 
 -- only a cell of the row is unknown
 pub inside : (row : List ℕ) (cell : ℕ) → Unknown row cell → cell < length row

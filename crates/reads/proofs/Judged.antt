@@ -9,12 +9,12 @@ use lib.ListN.{length}
 use lib.Dec.{leb, ltb, eqb}
 use borrow.Author.Tests.{le-leb, leb-true, lt-ltb, ltb-true, eqb-true, eq-eqb}
 use Rattle.places.specs.Limits.{notHeard}
-use Rattle.plan.specs.Reads.{Unknown, block, lastStartOf, Reads, AllLegal, ReadBy, RightPlan}
-use Rattle.plan.specs.Plan.{unknown, leastReads}
-use Rattle.plan.specs.Judging.{allLegal, reads, readBy, missed, noneMissed, rightPlan}
-use Rattle.plan.specs.Statements.{JudgedRight}
-use Rattle.plan.proofs.Tests.{and-left, and-right, and-both, or-cases, or-left, or-right}
-use Rattle.plan.proofs.Fewest.{moved, plan-is-right, count-is-least}
+use Rattle.reads.specs.Reads.{Unknown, block, lastStartOf, Reads, AllLegal, ReadBy, RightPlan}
+use Rattle.reads.specs.Plan.{unknown, leastReads}
+use Rattle.reads.specs.Judging.{allLegal, reads, readBy, missed, noneMissed, rightPlan}
+use Rattle.reads.specs.Statements.{JudgedRight}
+use Rattle.reads.proofs.Tests.{and-left, and-right, and-both, or-cases, or-left, or-right}
+use Rattle.reads.proofs.Fewest.{moved, plan-is-right, count-is-least}
 
 -- ---- each start is legal
 legal-yes : (row starts : List ℕ) → allLegal (length row) starts ≡ true → AllLegal row starts

@@ -4,8 +4,8 @@ use mathlib.Core.Path.{_≡_}
 use mathlib.Core.Bool.{Bool, true, false}
 use mathlib.Core.List.{List, [], _∷_, _++_, map}
 use lib.ListN.{replicate}
-use Rattle.plan.specs.Plan.{planOf}
-use Rattle.plan.specs.Judging.{rightPlan}
+use Rattle.reads.specs.Plan.{planOf}
+use Rattle.reads.specs.Judging.{rightPlan}
 
 -- so many cells that are told, with a number that installers take for unread, and so many that are not heard
 abbrev pub told : ℕ → List ℕ

@@ -1,8 +1,8 @@
--- `plan::cells::start_for` meets its contract. Assumes nothing.
+-- `reads::blocks::start_for` meets its contract. Assumes nothing.
 use borrow.Author.Needs.{needs}
 use native.Mathlib.Omega.{arith}
-use Rattle.plan.proofs.cells.start_for.Statement.{statement}
-use Rattle.plan.proofs.cells.start_for.Tie as tie
+use Rattle.reads.proofs.blocks.start_for.Statement.{statement}
+use Rattle.reads.proofs.blocks.start_for.Tie as tie
 
 returns : tie.Need-returns
 returns c = omega arith

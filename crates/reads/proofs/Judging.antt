@@ -9,9 +9,9 @@ use lib.Seq.{drop-cons}
 use lib.Dec.{leb}
 use borrow.Author.Tests.{le-leb, lt-leb, le-ltb, lt-ltb, eq-eqb, ne-eqb}
 use Rattle.places.specs.Limits.{notHeard}
-use Rattle.plan.specs.Reads.{block, lastStartOf}
-use Rattle.plan.specs.Judging.{allLegal, reads, readBy, missed, noneMissed, rightPlan}
-use Rattle.plan.specs.Plan.{leastReads}
+use Rattle.reads.specs.Reads.{block, lastStartOf}
+use Rattle.reads.specs.Judging.{allLegal, reads, readBy, missed, noneMissed, rightPlan}
+use Rattle.reads.specs.Plan.{leastReads}
 
 -- ---- each start is legal
 pub legal-end : (cells : ℕ) (starts : List ℕ) (i : ℕ) → length starts ≤ i → allLegal cells (drop i starts) ≡ true

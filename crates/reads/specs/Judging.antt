@@ -4,8 +4,8 @@ use mathlib.Core.Bool.{Bool, true, false, _&&_, _||_, not}
 use mathlib.Core.List.{List, [], _∷_}
 use lib.ListN.{length}
 use lib.Dec.{leb, ltb, eqb}
-use Rattle.plan.specs.Reads.{block, lastStartOf}
-use Rattle.plan.specs.Plan.{unknown, leastReads}
+use Rattle.reads.specs.Reads.{block, lastStartOf}
+use Rattle.reads.specs.Plan.{unknown, leastReads}
 
 unfoldable pub allLegal : ℕ → List ℕ → Bool
 allLegal cells [] = true

@@ -5,7 +5,7 @@ use mathlib.Core.List.{List, [], _∷_}
 use lib.ListN.{length}
 use lib.Dec.{eqb}
 use Rattle.places.specs.Limits.{notHeard}
-use Rattle.plan.specs.Reads.{block, lastStartOf}
+use Rattle.reads.specs.Reads.{block, lastStartOf}
 
 abbrev pub unknown : ℕ → Bool
 unknown value = eqb value notHeard
