@@ -11,7 +11,7 @@ use Rattle.history.specs.Standing.{sense, meaning, typed, typeOf, after, gave, 
 use Rattle.history.specs.Asked.{countTold, overRow, toldAs, toldReply}
 use Rattle.history.specs.Cases.{example}
 use Rattle.history.proofs.Demand3.{demand-3}
-use Rattle.numbers.specs.Number.{numberBytes, readNumber}
+use Rattle.groups.specs.Number.{numberBytes, readNumber}
 use Rattle.recording.specs.Record.{readWithin}
 use Rattle.demands.specs.Edges.{EdgesHold, EdgesOnBytes}
 

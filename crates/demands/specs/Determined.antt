@@ -13,7 +13,7 @@ use Rattle.steering.specs.Fresh.{fresheningWith, freshening}
 use Rattle.questions.specs.Question.{Question, Reply}
 use Rattle.questions.specs.Replies.{listing, reply}
 use Rattle.plan.specs.Replies.{planReply, planBytesReply}
-use Rattle.numbers.specs.Write.{putGroups, putInto}
+use Rattle.groups.specs.Write.{putGroups, putInto}
 use Rattle.recorder.specs.Write.{putAnswer, putBytes}
 use Rattle.replay.specs.declared.window.Stream.{Stream}
 use Rattle.replay.specs.Replay.{replayAnswer, replayPicture}

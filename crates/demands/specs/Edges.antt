@@ -24,12 +24,10 @@ use Rattle.questions.specs.Question.{Question, cell, led, blind, name-row, Repl
 use Rattle.questions.specs.Replies.{reply}
 use Rattle.history.specs.Standing.{Event, back, deepest, outcomeOf, answered}
 use Rattle.history.specs.Demand3.{runBytes}
-use Rattle.history.specs.Cases.{example, ir, bl, bl2, status, toldTo}
-use Rattle.history.specs.Cases.{low as heard}
-use Rattle.history.specs.Cases.{high as urged}
-use Rattle.numbers.specs.declared.reads.Found.{Found}
-use Rattle.numbers.specs.declared.reads.Found.the-variants as numbers
-use Rattle.numbers.specs.Number.{bytesOf, numberAt}
+use Rattle.history.specs.Cases.{example, ir, bl, bl2, status, toldTo, low as heard, high as urged}
+use Rattle.groups.specs.declared.reads.Found.{Found}
+use Rattle.groups.specs.declared.reads.Found.the-variants as numbers
+use Rattle.groups.specs.Number.{bytesOf, numberAt}
 use Rattle.recording.specs.declared.records.Entry.{Entry}
 use Rattle.recording.specs.declared.records.Entry.the-variants.{Broken}
 use Rattle.recording.specs.Limits.{mostGap}

@@ -11,20 +11,20 @@ use lib.Seq.{drop-drop, drop-append-seam, take-append-seam, length-take-le, drop
 use lib.Dec.{leb}
 use borrow.Author.Tests.{lt-ltb, le-leb, leb-true}
 use Rattle.laws.proofs.Stores.{drop-after}
-use Rattle.numbers.specs.declared.reads.Found.{Found}
-use Rattle.numbers.specs.declared.reads.Found.the-variants.{Value}
+use Rattle.groups.specs.declared.reads.Found.{Found}
+use Rattle.groups.specs.declared.reads.Found.the-variants.{Value}
 use Rattle.recording.specs.declared.records.Entry.{Entry}
 use Rattle.recording.specs.declared.records.Entry.the-variants.{Record, End, Broken}
 use Rattle.recorder.specs.declared.writes.Put.{Put}
 use Rattle.recorder.specs.declared.writes.Put.the-variants.{Wrote, Refused}
 use Rattle.laws.specs.Refusals.{tooShort, badNumber}
 use Rattle.recording.specs.Limits.{mostGap, mostWord, mostCount, inRange}
-use Rattle.numbers.specs.Number.{mostGroups, bytesOf, groupsOf, numberAt}
+use Rattle.groups.specs.Number.{mostGroups, bytesOf, groupsOf, numberAt}
 use Rattle.recording.specs.Record.{after, readData, readCount, readWord, readWithin, readRecord}
 use Rattle.recorder.specs.Write.{recordBytes, putAnswer, putBytes, placed}
 use Rattle.laws.specs.Limits.{AllBytes}
 use Rattle.recorder.specs.Statements.{StandsAt, BytesReadBack, WrittenIsRead, ReadIsWritten}
-use Rattle.numbers.proofs.Writing.{bytes-last}
+use Rattle.groups.proofs.Writing.{bytes-last}
 use Rattle.numbers.proofs.Spelling.{read-at, read-is-spelt}
 use Rattle.recorder.proofs.Writing.{record-length, put-done}
 use Rattle.recording.proofs.Ranges.{Ranged, ranged}

@@ -17,9 +17,9 @@ use Rattle.laws.proofs.Stores.{sets-append}
 use Rattle.recorder.specs.declared.writes.Put.{Put}
 use Rattle.recorder.specs.declared.writes.Put.the-variants.{Wrote, Refused}
 use Rattle.laws.specs.Refusals.{tooShort, badNumber}
-use Rattle.numbers.specs.Number.{bytesOf, groupsOf}
-use Rattle.numbers.specs.Write.{putGroups, putInto}
-use Rattle.numbers.proofs.Writing.{put-fits}
+use Rattle.groups.specs.Number.{bytesOf, groupsOf}
+use Rattle.groups.specs.Write.{putGroups, putInto}
+use Rattle.groups.proofs.Writing.{put-fits}
 use Rattle.recording.specs.Limits.{inRange}
 use Rattle.recorder.specs.Write.{recordBytes, putAnswer, putBytes, placed}
 

@@ -9,7 +9,7 @@ use Rattle.recorder.specs.declared.writes.Put.the-variants.{Wrote, Refus
 use Rattle.laws.specs.Answers.{Numbers, value, refusal}
 use Rattle.laws.specs.Refusals.{tooShort, badNumber}
 use Rattle.recording.specs.Limits.{inRange}
-use Rattle.numbers.specs.Number.{bytesOf}
+use Rattle.groups.specs.Number.{bytesOf}
 
 -- the bytes of a record
 unfoldable pub recordBytes : ℕ → ℕ → ℕ → List ℕ → List ℕ

@@ -1,8 +1,8 @@
 // The writer of records.
+use groups::number_size;
+use groups::put_number;
 use laws::MOST_IDENTIFIER;
 use laws::copy_in;
-use numbers::number_size;
-use numbers::put_number;
 use recording::MOST_COUNT;
 use recording::MOST_GAP;
 use recording::MOST_REMOTE;

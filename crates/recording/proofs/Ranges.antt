@@ -10,7 +10,7 @@ use borrow.Author.Tests.{le-leb, leb-true}
 use Rattle.laws.proofs.Testing.{and-both}
 use Rattle.laws.specs.Limits.{mostIdentifier}
 use Rattle.recording.specs.Limits.{mostGap, gapGroups, mostWord, wordGroups, mostRemote, mostCount, countGroups, inRange}
-use Rattle.numbers.specs.Number.{numberBytes, groupsOf}
+use Rattle.groups.specs.Number.{numberBytes, groupsOf}
 
 pub gap-groups : groupsOf mostGap ≡ gapGroups
 unfolding numberBytes

@@ -23,7 +23,7 @@ use Rattle.replay.specs.declared.window.Stream.{Stream}
 use Rattle.texts.specs.Text.{Fits, Written}
 use Rattle.texts.specs.Listing.{listingText, listingAnswer, listingBytes}
 use Rattle.texts.specs.TextStatements.{lineRoom, PutIsInside}
-use Rattle.numbers.proofs.Reading.{different}
+use Rattle.groups.proofs.Reading.{different}
 use Rattle.texts.proofs.Texts.{room-is-enough}
 use Rattle.texts.proofs.Listings.{listing-fits}
 

@@ -3,8 +3,8 @@ use Prim.Native.Nat.{_+_, _*_}
 use native.Mathlib.Omega.{arith}
 use borrow.Author.Needs.{needs}
 use lib.ListN.{length}
-use Rattle.numbers.specs.Number.{mostGroups}
-use Rattle.numbers.proofs.Writing.{bytes-length}
+use Rattle.groups.specs.Number.{mostGroups}
+use Rattle.groups.proofs.Writing.{bytes-length}
 use Rattle.recording.proofs.Ranges.{ranged}
 use Rattle.recorder.proofs.Writing.{record-length}
 use Rattle.recorder.proofs.writes.record_size.Statement.{statement}

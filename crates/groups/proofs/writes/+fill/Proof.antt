@@ -1,4 +1,4 @@
--- `numbers::writes::fill` meets its contract; the measure is the number of groups still allowed. Assumes nothing.
+-- `groups::writes::fill` meets its contract; the measure is the number of groups still allowed. Assumes nothing.
 use Prim.Native.Nat.{ℕ, _<_, _+_, _-_, _/_, _%_}
 use mathlib.Core.Path.{ap, sym, _∙_}
 use native.Mathlib.Numerals.{add-one}
@@ -8,13 +8,13 @@ use borrow.Fn.Kinds.{In}
 use borrow.Fn.PlainCycle.{Measures, is, falls, and}
 use lib.ListN.{length, set, length-set}
 use lib.Seq.{sets}
-use Rattle.numbers.specs.Number.{numberBytes}
-use Rattle.numbers.proofs.Writing.{bytes-none, bytes-last, bytes-more}
-use Rattle.numbers.proofs.writes.fill.Reads as fill
-use Rattle.numbers.proofs.writes.fill.Kinds as fill-kinds
-use Rattle.numbers.proofs.writes.+fill.Lts-fill as lts
-use Rattle.numbers.proofs.writes.+fill.{statement}
-use Rattle.numbers.proofs.writes.+fill.Tie.{close}
+use Rattle.groups.specs.Number.{numberBytes}
+use Rattle.groups.proofs.Writing.{bytes-none, bytes-last, bytes-more}
+use Rattle.groups.proofs.writes.fill.Reads as fill
+use Rattle.groups.proofs.writes.fill.Kinds as fill-kinds
+use Rattle.groups.proofs.writes.+fill.Lts-fill as lts
+use Rattle.groups.proofs.writes.+fill.{statement}
+use Rattle.groups.proofs.writes.+fill.Tie.{close}
 
 abbrev μ : Measures 1 fill-kinds.ps ℕ
 μ κs a = a .1 .1 .0

@@ -1,17 +1,17 @@
--- `numbers::reads::read_groups` meets its contract; the measure is the number of groups still allowed. Assumes nothing.
+-- `groups::reads::read_groups` meets its contract; the measure is the number of groups still allowed. Assumes nothing.
 use Prim.Native.Nat.{ℕ, _<_, _+_, _-_, _/_}
 use native.Mathlib.Omega.{arith}
 use borrow.Author.Needs.{needs}
 use borrow.Author.Tests.{eq-eqb, ne-eqb}
 use borrow.Fn.Kinds.{In}
 use borrow.Fn.PlainCycle.{Measures, is, falls, and}
-use Rattle.numbers.proofs.Reading.{number-end, number-none, number-large, number-last, number-long, number-joined, value-at}
-use Rattle.numbers.proofs.reads.read_groups.Reads as read-groups
-use Rattle.numbers.proofs.reads.read_groups.Kinds as read-groups-kinds
-use Rattle.numbers.proofs.reads.+read_groups.Lts-read_groups as lts
-use Rattle.numbers.proofs.reads.wide.Reads as wide-reads
-use Rattle.numbers.proofs.reads.+read_groups.{statement}
-use Rattle.numbers.proofs.reads.+read_groups.Tie.{close}
+use Rattle.groups.proofs.Reading.{number-end, number-none, number-large, number-last, number-long, number-joined, value-at}
+use Rattle.groups.proofs.reads.read_groups.Reads as read-groups
+use Rattle.groups.proofs.reads.read_groups.Kinds as read-groups-kinds
+use Rattle.groups.proofs.reads.+read_groups.Lts-read_groups as lts
+use Rattle.groups.proofs.reads.wide.Reads as wide-reads
+use Rattle.groups.proofs.reads.+read_groups.{statement}
+use Rattle.groups.proofs.reads.+read_groups.Tie.{close}
 
 abbrev μ : Measures 1 read-groups-kinds.ps ℕ
 μ κs a = a .1 .1 .0

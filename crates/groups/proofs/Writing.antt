@@ -14,8 +14,8 @@ use lib.Dec.{ltb}
 use borrow.Author.Tests.{lt-ltb, le-ltb, le-leb, lt-leb, ltb-true, ltb-false}
 use Rattle.laws.proofs.Choices.{cond-elim}
 use Rattle.laws.proofs.Copying.{copied-all, copied-none}
-use Rattle.numbers.specs.Number.{numberBytes, bytesOf, groupsOf}
-use Rattle.numbers.specs.Write.{putGroups, putInto}
+use Rattle.groups.specs.Number.{numberBytes, bytesOf, groupsOf}
+use Rattle.groups.specs.Write.{putGroups, putInto}
 
 pub bytes-none : (left v : ℕ) → left ≡ 0 → numberBytes left v ≡ []
 unfolding numberBytes

@@ -1,10 +1,10 @@
--- `numbers::writes::put_number` meets its contract. Assumes nothing.
+-- `groups::writes::put_number` meets its contract. Assumes nothing.
 use mathlib.Core.Path.{sym, _∙_}
 use native.Mathlib.Omega.{arith}
-use Rattle.numbers.proofs.Writing.{put-fits, put-no-room}
+use Rattle.groups.proofs.Writing.{put-fits, put-no-room}
 use borrow.Author.Needs.{needs}
-use Rattle.numbers.proofs.writes.put_number.Statement.{statement}
-use Rattle.numbers.proofs.writes.put_number.Tie as tie
+use Rattle.groups.proofs.writes.put_number.Statement.{statement}
+use Rattle.groups.proofs.writes.put_number.Tie as tie
 
 returns : tie.Need-returns
 returns c =

@@ -14,9 +14,9 @@ use lib.Seq.{drop-cons}
 use lib.Dec.{ltb, eqb}
 use borrow.Author.Tests.{lt-ltb, le-ltb, eq-eqb, ne-eqb, ltb-false, eqb-false}
 use Rattle.laws.proofs.Choices.{cond-elim}
-use Rattle.numbers.specs.declared.reads.Found.{Found}
-use Rattle.numbers.specs.declared.reads.Found.the-variants.{Value, Ends, Bad}
-use Rattle.numbers.specs.Number.{readNumber, joined}
+use Rattle.groups.specs.declared.reads.Found.{Found}
+use Rattle.groups.specs.declared.reads.Found.the-variants.{Value, Ends, Bad}
+use Rattle.groups.specs.Number.{readNumber, joined}
 
 -- two constructors are not equal
 pub different : _≡_ {A = ℕ} 0 1 → ⊥

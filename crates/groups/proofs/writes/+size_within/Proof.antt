@@ -1,4 +1,4 @@
--- `numbers::writes::size_within` meets its contract; the measure is the number of groups still allowed. Assumes nothing.
+-- `groups::writes::size_within` meets its contract; the measure is the number of groups still allowed. Assumes nothing.
 use Prim.Native.Nat.{ℕ, _<_, _+_, _-_, _/_}
 use mathlib.Core.Path.{ap, sym, _∙_}
 use native.Mathlib.Numerals.{add-one}
@@ -7,12 +7,12 @@ use borrow.Author.Needs.{needs}
 use borrow.Fn.Kinds.{In}
 use borrow.Fn.PlainCycle.{Measures, is, falls, and}
 use lib.ListN.{length}
-use Rattle.numbers.proofs.Writing.{bytes-none, bytes-last, bytes-more, bytes-length}
-use Rattle.numbers.proofs.writes.size_within.Reads as size-within
-use Rattle.numbers.proofs.writes.size_within.Kinds as size-within-kinds
-use Rattle.numbers.proofs.writes.+size_within.Lts-size_within as lts
-use Rattle.numbers.proofs.writes.+size_within.{statement}
-use Rattle.numbers.proofs.writes.+size_within.Tie.{close}
+use Rattle.groups.proofs.Writing.{bytes-none, bytes-last, bytes-more, bytes-length}
+use Rattle.groups.proofs.writes.size_within.Reads as size-within
+use Rattle.groups.proofs.writes.size_within.Kinds as size-within-kinds
+use Rattle.groups.proofs.writes.+size_within.Lts-size_within as lts
+use Rattle.groups.proofs.writes.+size_within.{statement}
+use Rattle.groups.proofs.writes.+size_within.Tie.{close}
 
 abbrev μ : Measures 0 size-within-kinds.ps ℕ
 μ κs a = a .0

@@ -3,8 +3,8 @@ ghost use mathlib.Core.Path.{_≡_};
 ghost use Prim.Native.Nat.{_+_, _≤_};
 ghost use lib.ListN.{length};
 ghost use lib.Seq.{sets};
-ghost use Rattle.numbers.specs.Number.{numberBytes, groupsOf};
-ghost use Rattle.numbers.specs.Write.{putGroups, putInto};
+ghost use Rattle.groups.specs.Number.{numberBytes, groupsOf};
+ghost use Rattle.groups.specs.Write.{putGroups, putInto};
 
 // So many groups hold every number of 64 bits.
 const MOST_GROUPS: usize = 10;

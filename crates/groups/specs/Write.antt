@@ -5,7 +5,7 @@ use mathlib.Core.Bool.{cond}
 use lib.Dec.{leb}
 use lib.ListN.{length}
 use Rattle.laws.specs.Copies.{copiedIn}
-use Rattle.numbers.specs.Number.{bytesOf, groupsOf}
+use Rattle.groups.specs.Number.{bytesOf, groupsOf}
 
 -- the count of groups, 0 where they have no room from `at` on
 unfoldable pub putGroups : List ℕ → ℕ → ℕ → ℕ
