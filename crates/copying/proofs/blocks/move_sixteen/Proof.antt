@@ -1,9 +1,9 @@
--- `questions::copying::move_sixteen` meets its contract. Assumes nothing.
-use Rattle.questions.proofs.Runs.{copied-on}
+-- `copying::blocks::move_sixteen` meets its contract. Assumes nothing.
+use Rattle.copying.proofs.Runs.{copied-on}
 use borrow.Author.Needs.{needs}
 use native.Mathlib.Omega.{arith}
-use Rattle.questions.proofs.copying.move_sixteen.Statement.{statement}
-use Rattle.questions.proofs.copying.move_sixteen.Tie as tie
+use Rattle.copying.proofs.blocks.move_sixteen.Statement.{statement}
+use Rattle.copying.proofs.blocks.move_sixteen.Tie as tie
 
 returns : tie.Need-returns
 returns c =

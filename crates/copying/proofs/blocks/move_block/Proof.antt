@@ -1,9 +1,9 @@
--- `questions::copying::move_block` meets its contract. What the last calls ask lies too far back for a search, so that their facts are listed. Assumes nothing.
-use Rattle.questions.proofs.Runs.{copied-on}
+-- `copying::blocks::move_block` meets its contract. What the last calls ask lies too far back for a search, so that their facts are listed. Assumes nothing.
+use Rattle.copying.proofs.Runs.{copied-on}
 use borrow.Author.Needs.{needs}
 use native.Mathlib.Omega.{arith}
-use Rattle.questions.proofs.copying.move_block.Statement.{statement}
-use Rattle.questions.proofs.copying.move_block.Tie as tie
+use Rattle.copying.proofs.blocks.move_block.Statement.{statement}
+use Rattle.copying.proofs.blocks.move_block.Tie as tie
 
 returns : tie.Need-returns
 returns c =

@@ -3,9 +3,9 @@
 use laws::copy_in;
 ghost use mathlib.Core.Path.{_≡_};
 ghost use Prim.Native.Nat.{_+_, _≤_};
-ghost use lib.ListN.{length, getD, take, drop};
+ghost use lib.ListN.{length, take, drop};
 ghost use lib.Seq.{sets};
-ghost use Rattle.questions.specs.Fills.{filledTo};
+ghost use Rattle.laws.specs.Copies.{copiedIn};
 
 fn eight_at(s: &[u8], at: usize) -> [u8; 8]
     requires { ⌜ at + 8 ≤ length (now s) ⌝ }
@@ -63,26 +63,26 @@ fn move_block(s: &[u8], from: usize, out: &mut [u8], to: usize)
     move_sixteen(s, from + 112, out, to + 112);
 }
 
-// The whole blocks of n bytes, and how many bytes these are.
-fn move_blocks(s: &[u8], from: usize, n: usize, out: &mut [u8]) -> usize
-    requires { ⌜ (from + n ≤ length (now s)) × (n ≤ length (now out)) ⌝ }
-    ensures { λ r. ⌜ (r ≤ n) × (now (out .exit) ≡ sets (now (out .entry)) 0 (take r (drop from (now (s .entry))))) ⌝ }
+// The whole blocks of the bytes, and how many bytes these are.
+fn move_blocks(bytes: &[u8], out: &mut [u8]) -> usize
+    requires { ⌜ length (now bytes) ≤ length (now out) ⌝ }
+    ensures { λ r. ⌜ (r ≤ length (now (bytes .entry))) × (now (out .exit) ≡ sets (now (out .entry)) 0 (take r (now (bytes .entry)))) ⌝ }
 {
     let mut i: usize = 0;
-    while BLOCK <= n - i {
-        move_block(s, from + i, out, i);
+    while BLOCK <= bytes.len() - i {
+        move_block(bytes, i, out, i);
         i += BLOCK;
     }
     i
 }
 
-// n bytes from `at` on, to the beginning of a buffer: whole blocks, and the rest byte by byte.
-pub(crate) fn fill_bytes(s: &[u8], at: usize, n: usize, out: &mut [u8])
-    requires { ⌜ (at + n ≤ length (now s)) × (n ≤ length (now out)) ⌝ }
-    ensures { λ _. ⌜ now (out .exit) ≡ filledTo (λ j. getD (now (s .entry)) (at + j) 0) (now (out .entry)) n ⌝ }
+// All of `bytes` to the beginning of a buffer, whole blocks first and the rest byte by byte; nothing where they have no room.
+pub fn copy_front(out: &mut [u8], bytes: &[u8])
+    ensures { λ _. ⌜ now (out .exit) ≡ copiedIn (now (out .entry)) 0 (now (bytes .entry)) ⌝ }
 {
-    let done = move_blocks(s, at, n, out);
-    let start = at + done;
-    let end = at + n;
-    copy_in(out, done, &s[start..end]);
+    if out.len() < bytes.len() {
+        return;
+    }
+    let done = move_blocks(bytes, out);
+    copy_in(out, done, &bytes[done..]);
 }

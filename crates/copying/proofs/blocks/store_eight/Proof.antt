@@ -1,10 +1,10 @@
--- `questions::copying::store_eight` meets its contract. Assumes nothing.
+-- `copying::blocks::store_eight` meets its contract. Assumes nothing.
 use lib.ListN.{length-set}
-use Rattle.questions.proofs.Runs.{eight-stored}
+use Rattle.copying.proofs.Runs.{eight-stored}
 use borrow.Author.Needs.{needs}
 use native.Mathlib.Omega.{arith}
-use Rattle.questions.proofs.copying.store_eight.Statement.{statement}
-use Rattle.questions.proofs.copying.store_eight.Tie as tie
+use Rattle.copying.proofs.blocks.store_eight.Statement.{statement}
+use Rattle.copying.proofs.blocks.store_eight.Tie as tie
 
 returns : tie.Need-returns
 returns c = eight-stored (c .args .out .now) (c .args .at) (c .args .t3) (c .pre .1)

@@ -1,9 +1,9 @@
--- `questions::copying::eight_at` meets its contract. Assumes nothing.
+-- `copying::blocks::eight_at` meets its contract. Assumes nothing.
 use mathlib.Core.Path.{refl}
-use Rattle.questions.proofs.Runs.{eight-taken}
+use Rattle.copying.proofs.Runs.{eight-taken}
 use borrow.Author.Needs.{needs}
-use Rattle.questions.proofs.copying.eight_at.Statement.{statement}
-use Rattle.questions.proofs.copying.eight_at.Tie as tie
+use Rattle.copying.proofs.blocks.eight_at.Statement.{statement}
+use Rattle.copying.proofs.blocks.eight_at.Tie as tie
 
 returns : tie.Need-returns
 returns c = (eight-taken _ _ (c .before .before .before .before .before .before .before .before .pre), refl)

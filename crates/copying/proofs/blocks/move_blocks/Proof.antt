@@ -1,20 +1,20 @@
--- `questions::copying::move_blocks` meets its contract. The loop's invariant: the first i bytes are copied. Assumes nothing.
+-- `copying::blocks::move_blocks` meets its contract. The loop's invariant: the first i bytes are copied. Assumes nothing.
 use Prim.Native.Nat.{_-_, _≤_}
 use native.Mathlib.Nat.{zero-add}
 use mathlib.Core.Path.{_≡_, refl, _∙_}
-use lib.ListN.{length, take, drop}
+use lib.ListN.{length, take}
 use lib.Seq.{sets}
-use Rattle.questions.proofs.Runs.{copied-on}
+use Rattle.copying.proofs.Runs.{copied-on}
 use borrow.Author.Needs.{needs}
 use native.Mathlib.Omega.{arith}
-use Rattle.questions.proofs.copying.move_blocks.Statement.{statement}
-use Rattle.questions.proofs.copying.move_blocks.Tie as tie
+use Rattle.copying.proofs.blocks.move_blocks.Statement.{statement}
+use Rattle.copying.proofs.blocks.move_blocks.Tie as tie
 
 abbrev Inv-loop : tie.InvT-loop
-Inv-loop s from n out₀ i₀ out i = (i ≤ n) × (length out ≡ length out₀) × (out ≡ sets out₀ 0 (take i (drop from s)))
+Inv-loop bytes out₀ i₀ out i = (i ≤ length bytes) × (length out ≡ length out₀) × (out ≡ sets out₀ 0 (take i bytes))
 
 abbrev μ-loop : tie.MeasureT-loop
-μ-loop s from n out₀ i₀ out i = n - i
+μ-loop bytes out₀ i₀ out i = length bytes - i
 
 loop-holds : tie.Need-loop-holds Inv-loop μ-loop
 loop-holds c = (omega arith, refl, refl)
@@ -24,7 +24,7 @@ loop-again c =
     let l = c .before .before .before .before .before .loop in
     let start = c .before .before .before .before .before .before .before .before in
     let a = start .args in
-    (omega arith, c .before .before .move-block .kept .1 .1 .0 ∙ l .inv .1, copied-on (a .s .now) (a .from) (a .out .now) 0 (l .i) 128 _ _ (omega arith) (l .inv .2) (rw zero-add (c .before .before .move-block .ensures)))
+    (omega arith, c .before .before .move-block .kept .1 .1 .0 ∙ l .inv .1, copied-on (a .bytes .now) 0 (a .out .now) 0 (l .i) 128 _ _ (omega arith) (l .inv .2) (rw zero-add (c .before .before .move-block .ensures)))
 
 same-length : tie.Need-same-length Inv-loop μ-loop
 same-length c = c .before .loop .inv .1
@@ -39,7 +39,6 @@ move-blocks-spec =
     Inv-loop
     μ-loop
     loop-holds
-    (λ c. search needs)
     (λ c. search needs)
     (λ c κs. search needs)
     (λ c. search needs)
