@@ -13,7 +13,7 @@ use Rattle.history.specs.Cases.{example}
 use Rattle.history.proofs.Demand3.{demand-3}
 use Rattle.groups.specs.Number.{numberBytes, readNumber}
 use Rattle.recording.specs.Record.{readWithin}
-use Rattle.demands.specs.Edges.{EdgesHold, EdgesOnBytes}
+use Rattle.edges.specs.Edges.{EdgesHold, EdgesOnBytes}
 
 pub edges-hold : EdgesHold
 unfolding tab lineOf rowsOf extentOf positionIn nameOf blindOf buttonsAllowed askedAllowed reading commandRead requestRead firstCharacter cellAsked ledAsked blindAsked hasName saidFrom glowBy meaningOf meant readAs sense meaning typed typeOf after gave latest more listed judged judgement outcomeOf stands butLatest struck counted standing kept granted answered countTold overRow toldAs toldReply numberBytes readNumber readWithin
