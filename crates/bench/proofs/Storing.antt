@@ -12,14 +12,15 @@ use Rattle.codec.specs.Writing.{writing}
 use Rattle.codec.specs.declared.writer.Writing.{Writing}
 use Rattle.codec.specs.declared.writer.Writing.the-variants.{Written, Refused}
 use Rattle.types.specs.Types.{vmb8ir}
-use Rattle.frame.specs.declared.messages.Glow.{Glow}
 use Rattle.frame.specs.declared.messages.Command.{Command}
 use Rattle.places.specs.Runs.{silent, tells, ledIf, someLeds}
 use mathlib.Core.Bool.{cond}
 use lib.Dec.{eqb}
-use Rattle.bench.specs.Leds.{oneIf, ones}
-use Rattle.bench.specs.Bench.{benchSize, namedCells, newBench, keep, store, doneBy, block, dump}
-use Rattle.bench.specs.Taking.{writtenBytes, replyBytes, allBytes}
+use Rattle.replies.specs.Bench.{benchSize}
+use Rattle.bench.specs.Making.{namedCells, newBench}
+use Rattle.bench.specs.Deeds.{keep, store, doneBy}
+use Rattle.replies.specs.Replies.{block, dump}
+use Rattle.bench.specs.Sending.{writtenBytes, replyBytes, allBytes}
 
 -- values stored are a run that tells them
 pub told-stored : (vs b : List ℕ) (p : ℕ) → sets b p vs ≡ store b p (map tells vs)
@@ -34,13 +35,6 @@ pub eight : (b b₁ b₂ b₃ b₄ b₅ b₆ b₇ b₈ : List ℕ) (mask state :
 unfolding store tab
 eight b b₁ b₂ b₃ b₄ b₅ b₆ b₇ b₈ mask state e₁ e₂ e₃ e₄ e₅ e₆ e₇ e₈ =
     let one : mask / 1 ≡ mask = omega arith in rw (one, e₈, e₇, e₆, e₅, e₄, e₃, e₂, e₁)
-
--- eight bits as the code adds them up
-pub ones-sum : (s t : Glow) (x₀ x₁ x₂ x₃ x₄ x₅ x₆ x₇ r₀ r₁ r₂ r₃ r₄ r₅ r₆ r₇ : ℕ) → r₀ ≡ oneIf s t x₀ → r₁ ≡ oneIf s t x₁ → r₂ ≡ oneIf s t x₂ → r₃ ≡ oneIf s t x₃ → r₄ ≡ oneIf s t x₄ → r₅ ≡ oneIf s t x₅ → r₆ ≡ oneIf s t x₆ → r₇ ≡ oneIf s t x₇
-    → r₀ + 2 * (r₁ + 2 * (r₂ + 2 * (r₃ + 2 * (r₄ + 2 * (r₅ + 2 * (r₆ + 2 * r₇)))))) ≡ ones s t (x₀ ∷ x₁ ∷ x₂ ∷ x₃ ∷ x₄ ∷ x₅ ∷ x₆ ∷ x₇ ∷ [])
-unfolding ones
-ones-sum s t x₀ x₁ x₂ x₃ x₄ x₅ x₆ x₇ r₀ r₁ r₂ r₃ r₄ r₅ r₆ r₇ e₀ e₁ e₂ e₃ e₄ e₅ e₆ e₇ =
-    rw (← e₀, ← e₁, ← e₂, ← e₃, ← e₄, ← e₅, ← e₆, ← e₇) (omega arith)
 
 -- every reply has twelve bytes
 twelve : (w : Writing) → length (writtenBytes w) ≡ 12

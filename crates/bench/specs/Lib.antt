@@ -1,4 +1,4 @@
--- Read in this order: Leds (a status frame's bytes), Bench (its bytes, what a command does to them, and the replies), Taking (what each call gives).
-pub mod Leds
-pub mod Bench
-pub mod Taking
+-- Read in this order: Making (a new bench), Deeds (what a command does to it), Sending (its replies as frames).
+pub mod Making
+pub mod Deeds
+pub mod Sending

@@ -8,15 +8,13 @@ use frame::Location;
 use frame::Message;
 use places::cell_place;
 use places::glow_number;
-use types::VMB8IR;
+use replies::KIND;
 ghost use mathlib.Core.Path.{_≡_};
 ghost use mathlib.Core.List.{[], _∷_};
 ghost use Rattle.types.specs.Types.{vmb8ir};
 ghost use Rattle.places.specs.Places.{cellPlace};
 ghost use Rattle.places.specs.Runs.{telling, glowNumber, someLeds};
-ghost use Rattle.bench.specs.Bench.{deed, done, doneBy};
-
-pub(crate) const KIND: u8 = VMB8IR as u8;
+ghost use Rattle.bench.specs.Deeds.{deed, done, doneBy};
 
 fn set_cell(bench: &mut [u8], l: Location, v: u8)
     ensures { λ _. ⌜ now (bench .exit) ≡ doneBy (telling (cellPlace vmb8ir (l .0)) (v ∷ [])) (now (bench .entry)) ⌝ }
@@ -69,7 +67,7 @@ fn act(bench: &mut [u8], m: Command)
     }
 }
 
-pub(crate) fn act_on(bench: &mut [u8], m: Message)
+pub fn act_on(bench: &mut [u8], m: Message)
     ensures { λ _. ⌜ now (bench .exit) ≡ done m (now (bench .entry)) ⌝ }
 {
     match m {

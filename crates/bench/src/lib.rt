@@ -1,14 +1,13 @@
-// A bench module to teach on: a VMB8IR in lent bytes. It takes the commands that such a module receives and gives its replies.
+// A bench module to teach on: a VMB8IR in lent bytes, made new, what a command does to it, and its replies written as frames.
 mod bytes;
 mod deeds;
 mod leds;
 mod making;
-mod replies;
-mod taking;
-mod verdicts;
+mod sending;
 
+pub use deeds::act_on;
 pub use making::SIZE;
 pub use making::bench_new;
 pub use making::bench_size;
-pub use taking::Taken;
-pub use taking::bench_take;
+pub use sending::reply;
+pub use sending::reply_count;

@@ -1,6 +1,5 @@
 // A new bench.
 use crate::bytes::put_bytes;
-use crate::deeds::KIND;
 use frame::Location;
 use laws::BAD_FIELD;
 use laws::TOO_SHORT;
@@ -9,6 +8,9 @@ use places::PLACES;
 use places::WEEK;
 use places::YEAR;
 use places::cell_place;
+use replies::ADDRESS_AT;
+use replies::KIND;
+use replies::VERSION_AT;
 use shape::ADDRESSES;
 use shape::Outcome;
 use shape::put_at;
@@ -16,13 +18,8 @@ ghost use mathlib.Core.Path.{_≡_};
 ghost use Prim.Native.Nat.{_≤_};
 ghost use lib.ListN.{length};
 ghost use lib.Seq.{sets};
-ghost use Rattle.bench.specs.Bench.{benchSize, namedCells, newBench};
-ghost use Rattle.bench.specs.Taking.{making};
-
-// The bytes of a bench: one for each place, then its address and its map version.
-pub(crate) const ADDRESS_AT: usize = PLACES;
-
-pub(crate) const VERSION_AT: usize = PLACES + 1;
+ghost use Rattle.replies.specs.Bench.{benchSize};
+ghost use Rattle.bench.specs.Making.{namedCells, newBench, making};
 
 pub const SIZE: usize = PLACES + 2;
 

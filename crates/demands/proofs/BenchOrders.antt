@@ -22,12 +22,16 @@ use Rattle.frame.specs.declared.messages.Reading.the-variants.{Read, Refused}
 use Rattle.judging.specs.Reading.{rowRefusal, commandRefusal, requestRefusal, commandRead, requestRead, reading}
 use Rattle.shape.specs.Limits.{addresses, busAddress}
 use Rattle.places.specs.Runs.{commandOf}
-use Rattle.bench.specs.Bench.{benchSize, namedCells, ownAddress, done, replies}
-use Rattle.bench.specs.Taking.{firstRefusals, sentOnly, judgedIf, judged, Outcome, kept, takenWith, given, outcomeOf, making, taking}
-use Rattle.bench.specs.declared.verdicts.Verdict.{Verdict as BenchVerdict}
-use Rattle.bench.specs.declared.verdicts.Verdict.the-variants as bench
-use Rattle.bench.specs.declared.taking.Taken.{Taken}
-use Rattle.bench.specs.declared.taking.Taken.the-variants as taken
+use Rattle.replies.specs.Bench.{benchSize, ownAddress}
+use Rattle.bench.specs.Making.{namedCells, making}
+use Rattle.bench.specs.Deeds.{done}
+use Rattle.replies.specs.Replies.{replies}
+use Rattle.verdicts.specs.Verdicts.{firstRefusals, sentOnly, judgedIf, judged}
+use Rattle.taking.specs.Taking.{Outcome, kept, takenWith, given, outcomeOf, taking}
+use Rattle.verdicts.specs.declared.verdicts.Verdict.{Verdict as BenchVerdict}
+use Rattle.verdicts.specs.declared.verdicts.Verdict.the-variants as bench
+use Rattle.taking.specs.declared.taking.Taken.{Taken}
+use Rattle.taking.specs.declared.taking.Taken.the-variants as taken
 use Rattle.demands.specs.Order.{Test, _or_, Verdict, answers, refuses, verdict, formTests, requestTests, otherTests, makingOrder, messageIn, replyRoom, ownTests, takingOrder}
 use Rattle.demands.specs.Demand1.{ofTaken, Call, Benches}
 use Rattle.demands.proofs.Orders.{answers-refuses, unlesses, refused-or, call-fault, call-done, answer-fault}

@@ -23,9 +23,10 @@ use Rattle.shape.specs.declared.answers.Outcome.{Outcome}
 use Rattle.shape.specs.declared.answers.Outcome.the-variants as outcome
 use Rattle.shape.specs.declared.answers.Answer.{Answer}
 use Rattle.shape.specs.declared.answers.Answer.the-variants as answer
-use Rattle.recording.specs.declared.writes.Put.{Put}
-use Rattle.recording.specs.declared.writes.Put.the-variants as put
-use Rattle.recording.specs.Write.{inRange, recordBytes, putCase, placed, putAnswer, putBytes}
+use Rattle.recorder.specs.declared.writes.Put.{Put}
+use Rattle.recorder.specs.declared.writes.Put.the-variants as put
+use Rattle.recording.specs.Limits.{inRange}
+use Rattle.recorder.specs.Write.{recordBytes, putCase, placed, putAnswer, putBytes}
 use Rattle.recording.proofs.Entries.{records-are-whole, faults-are-placed, old-recordings-read}
 use Rattle.recording.proofs.Faults.{fault-is-certain, mendable-is-cut}
 use Rattle.recording.proofs.Mending.{cut-can-be-mended}

@@ -1,4 +1,4 @@
--- Read in this order: the laws of an order of refusals, each call's order, the demands, the edges.
+-- Read in this order: the laws of an order of refusals, each call's order, the demands.
 pub mod Orders
 pub mod FrameOrders
 pub mod PictureOrders
@@ -12,4 +12,3 @@ pub mod Determined
 pub mod Demand2
 pub mod Demand3
 pub mod Plan
-pub mod Edges

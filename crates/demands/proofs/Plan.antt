@@ -34,13 +34,13 @@ use Rattle.history.specs.Speaks.{tellsOf, Just, Spoken}
 use Rattle.history.proofs.Demand3.{demand-3}
 use Rattle.history.proofs.Effects.{hears-command}
 use Rattle.history.proofs.Speaks.{speaks-of}
-use Rattle.plan.specs.Reads.{block, Unknown, Reads, ReadBy, Covers}
-use Rattle.plan.specs.Plan.{planOf, leastReads}
+use Rattle.reads.specs.Reads.{block, Unknown, Reads, ReadBy, Covers}
+use Rattle.reads.specs.Plan.{planOf, leastReads}
 use Rattle.plan.specs.Replies.{memoryIn, planReply}
-use Rattle.plan.proofs.Steps.{inside}
-use Rattle.plan.proofs.Fewest.{plan-is-right, plan-fewest, count-is-least, nothing-unknown, quarter-is-enough}
-use Rattle.plan.proofs.Starts.{plan-rises, plan-as-asked, only-plan}
-use Rattle.plan.proofs.Judged.{judged-right}
+use Rattle.reads.proofs.Steps.{inside}
+use Rattle.reads.proofs.Fewest.{plan-is-right, plan-fewest, count-is-least, nothing-unknown, quarter-is-enough}
+use Rattle.reads.proofs.Starts.{plan-rises, plan-as-asked, only-plan}
+use Rattle.reads.proofs.Judged.{judged-right}
 use Rattle.plan.proofs.Calls.{row-is-memory, unknown-is-not-heard, row-of-type, written-is-plan, plan-in-bytes, odd-byte-is-no-entry, right-in-bytes, odd-byte-is-no-plan}
 use Rattle.demands.specs.Plan.{ReplyTo, RepliesTo, hearing, AllAccepted, AllTold, Pays, PlanPays, Plan}
 

@@ -17,8 +17,8 @@ use Rattle.questions.specs.Fills.{filledTo, filling, valueAt, rowNumber, lowFir
 use Rattle.questions.specs.Replies.{slotAsked, answerAt, placeReply, replyAs, replyIn, reply, keptAnswer, listedIf, listing}
 use Rattle.questions.specs.Statements.{inBytes}
 use Rattle.questions.proofs.RowBytes.{length-bytes}
-use Rattle.plan.specs.Plan.{planOf, leastReads}
-use Rattle.plan.specs.Judging.{rightPlan}
+use Rattle.reads.specs.Plan.{planOf, leastReads}
+use Rattle.reads.specs.Judging.{rightPlan}
 use Rattle.plan.specs.Replies.{memoryIn, atModule, asEntries, laid, planReply, planBytesReply, yesNo, rightInBytes}
 use Rattle.demands.specs.Order.{Test, _or_, answers, verdict, pictureTest, rowTest, listedOrder, placeTest, questionTests, questionOrder, rightOrder, planOrder}
 use Rattle.demands.specs.Demand1.{ofAnswer, Replied, Questions}

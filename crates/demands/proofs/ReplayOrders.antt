@@ -7,7 +7,7 @@ use lib.Dec.{leb}
 use lib.ListN.{length, drop}
 use Rattle.laws.specs.Refusals.{tooShort}
 use Rattle.shape.specs.Head.{short}
-use Rattle.recording.specs.declared.writes.Put.the-variants as put
+use Rattle.recorder.specs.declared.writes.Put.the-variants as put
 use Rattle.replay.specs.declared.records.Replayed.the-variants as answered
 use Rattle.replay.specs.declared.window.Part.the-variants as part
 use Rattle.replay.specs.Replay.{heardBy, replayed, replayAnswer, replayPicture, withRoom}

@@ -24,12 +24,13 @@ use Rattle.picture.specs.Stepping.{steppingBack}
 use Rattle.steering.specs.Fresh.{fresheningWith, freshening}
 use Rattle.questions.specs.Question.{Question, Reply}
 use Rattle.questions.specs.Replies.{slotAsked, keptAnswer, listing, reply}
-use Rattle.plan.specs.Plan.{leastReads}
+use Rattle.reads.specs.Plan.{leastReads}
 use Rattle.plan.specs.Replies.{memoryIn, planReply, planBytesReply, rightAnswer, rightBytesAnswer}
-use Rattle.bench.specs.declared.taking.Taken.{Taken}
-use Rattle.bench.specs.Taking.{making, takenNumbers, taking}
-use Rattle.recording.specs.declared.writes.Put.{Put}
-use Rattle.recording.specs.Write.{recordBytes, putNumbers, putAnswer, putBytes}
+use Rattle.taking.specs.declared.taking.Taken.{Taken}
+use Rattle.bench.specs.Making.{making}
+use Rattle.taking.specs.Taking.{takenNumbers, taking}
+use Rattle.recorder.specs.declared.writes.Put.{Put}
+use Rattle.recorder.specs.Write.{recordBytes, putNumbers, putAnswer, putBytes}
 use Rattle.recording.specs.Statements.{RecordsAreWhole, FaultsArePlaced, FaultIsCertain, CutCanBeMended, MendableIsCut, WindowSettles, OldRecordingsRead}
 use Rattle.replay.specs.declared.records.Replayed.{Replayed}
 use Rattle.replay.specs.declared.window.Part.{Part}

@@ -13,13 +13,14 @@ use Rattle.steering.specs.Fresh.{fresheningWith, freshening}
 use Rattle.questions.specs.Question.{Question, Reply}
 use Rattle.questions.specs.Replies.{listing, reply}
 use Rattle.plan.specs.Replies.{planReply, planBytesReply}
-use Rattle.numbers.specs.Write.{putGroups, putInto}
-use Rattle.recording.specs.Write.{putAnswer, putBytes}
+use Rattle.groups.specs.Write.{putGroups, putInto}
+use Rattle.recorder.specs.Write.{putAnswer, putBytes}
 use Rattle.replay.specs.declared.window.Stream.{Stream}
 use Rattle.replay.specs.Replay.{replayAnswer, replayPicture}
 use Rattle.replay.specs.Window.{partAnswer, partPicture, partWindow}
 use Rattle.texts.specs.Listing.{listingAnswer, listingBytes}
-use Rattle.bench.specs.Taking.{making, Outcome, taking}
+use Rattle.bench.specs.Making.{making}
+use Rattle.taking.specs.Taking.{Outcome, taking}
 use Rattle.velbus.specs.Words.{outcomeWord, answerWord}
 use Rattle.velbus.specs.Benches.{takenWord}
 use Rattle.velbus.specs.Recordings.{putWord}

@@ -1,4 +1,4 @@
--- Read in this order: the order of refusals, the three demands (after the first that a refusal is withdrawn, and that a promise leaves no choice), the starred edges.
+-- Read in this order: the order of refusals, the three demands (after the first that a refusal is withdrawn, and that a promise leaves no choice).
 pub mod Order
 pub mod Demand1
 pub mod Withdrawn
@@ -6,4 +6,3 @@ pub mod Determined
 pub mod Demand2
 pub mod Demand3
 pub mod Plan
-pub mod Edges

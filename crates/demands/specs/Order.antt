@@ -22,9 +22,13 @@ use Rattle.shape.specs.Head.{short, modulesOf, keptOf, slotOf, kindIn}
 use Rattle.questions.specs.Question.{Question, type-of, build-year, build-week, cell, led, blind, name-row, name-bytes, memory-row, memory-bytes}
 use Rattle.questions.specs.Replies.{slotAsked}
 use Rattle.history.specs.Standing.{deepest}
-use Rattle.bench.specs.Bench.{benchSize, namedCells, ownAddress, done, replies}
-use Rattle.bench.specs.Taking.{sentOnly}
-use Rattle.recording.specs.Write.{inRange, recordBytes}
+use Rattle.replies.specs.Bench.{benchSize, ownAddress}
+use Rattle.bench.specs.Making.{namedCells}
+use Rattle.bench.specs.Deeds.{done}
+use Rattle.replies.specs.Replies.{replies}
+use Rattle.verdicts.specs.Verdicts.{sentOnly}
+use Rattle.recording.specs.Limits.{inRange}
+use Rattle.recorder.specs.Write.{recordBytes}
 use Rattle.codec.specs.Writing.{frameSize}
 use Rattle.layouts.specs.declared.parts.Held.{Held}
 use Rattle.layouts.specs.declared.parts.Held.the-variants.{Holds, Nothing}

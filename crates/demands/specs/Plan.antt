@@ -17,7 +17,8 @@ use Rattle.history.specs.Standing.{Frame, address, Event, hear, deepest}
 use Rattle.history.specs.Demand3.{doing, runBytes, runsBytes}
 use Rattle.history.specs.Effects.{Reads}
 use Rattle.plan.specs.Replies.{planReply}
-use Rattle.plan.specs.Statements.{PlanIsRight, PlanRises, PlanAsAsked, OnlyPlan, NothingUnknown, CountIsLeast, QuarterIsEnough, JudgedRight, RowIsMemory, UnknownIsNotHeard, RowOfType, WrittenIsPlan, PlanInBytes, OddByteIsNoEntry, RightInBytes, OddByteIsNoPlan}
+use Rattle.reads.specs.Statements.{PlanIsRight, PlanRises, PlanAsAsked, OnlyPlan, NothingUnknown, CountIsLeast, QuarterIsEnough, JudgedRight}
+use Rattle.plan.specs.Statements.{RowIsMemory, UnknownIsNotHeard, RowOfType, WrittenIsPlan, PlanInBytes, OddByteIsNoEntry, RightInBytes, OddByteIsNoPlan}
 
 -- a reply to the block read at `start`: at a module of the type the frame is read as a CC of that address and that start, with any four bytes
 pub record ReplyTo (kind a start : ℕ) (f : Frame) : Type 0 where

@@ -12,7 +12,8 @@ use lib.Seq.{getD-set-same, getD-set-other}
 use borrow.Author.Tests.{eqb-true, eqb-false, ne-eqb, leb-true, leb-false}
 use Rattle.places.specs.Runs.{Saying, silent, asks, tells, Run, saidFrom, said}
 use Rattle.history.specs.Standing.{Known, told, after}
-use Rattle.bench.specs.Bench.{own, keep, store, doneBy}
+use Rattle.replies.specs.Bench.{own}
+use Rattle.bench.specs.Deeds.{keep, store, doneBy}
 
 abbrev pub Agree : (ℕ → Known) → List ℕ → Type 0
 Agree pic b = (p v : ℕ) → pic p ≡ told v → own b p ≡ v

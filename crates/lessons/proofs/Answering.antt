@@ -14,8 +14,9 @@ use Rattle.frame.specs.declared.messages.Command.{Command}
 use Rattle.frame.specs.declared.messages.Command.the-variants.{TypeLong, TypeShort, Buttons, CellTold, BlockTold, CellAsked, BlockAsked, DumpAsked, CellSet, BlockSet, Errors, ErrorsAsked, NameOne, NameTwo, NameThree, NameAsked, StatusAsked, InputStatus, LedsAll, Leds, BlindStatus, BlindStop, BlindUp, BlindDown}
 use Rattle.places.specs.Places.{firstCharacter, characterPlace}
 use Rattle.places.specs.Runs.{tells, saidFrom, run, telling, bit, glowNumber, glowBy, ledBy, meaningOf}
-use Rattle.bench.specs.Leds.{oneIf, ones}
-use Rattle.bench.specs.Bench.{own, cell, leds, block, dump, nameCell, nameOne, nameTwo, nameThree, status, typeTold, answers}
+use Rattle.replies.specs.Leds.{oneIf, ones}
+use Rattle.replies.specs.Bench.{own, cell, leds}
+use Rattle.replies.specs.Replies.{block, dump, nameCell, nameOne, nameTwo, nameThree, status, typeTold, answers}
 use Rattle.lessons.proofs.Agree.{Owns}
 use Rattle.lessons.proofs.Doing.{Sound, runOf}
 

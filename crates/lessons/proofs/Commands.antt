@@ -28,8 +28,8 @@ use Rattle.codec.specs.declared.writer.Writing.the-variants as w
 use Rattle.codec.proofs.Lawful.{Lawful}
 use Rattle.codec.proofs.RoundTrip.{read-then-written, written-lawful}
 use Rattle.shape.specs.Limits.{busAddress}
-use Rattle.bench.specs.Taking.{firstRefusals, sentOnly, judgedIf, judged}
-use Rattle.bench.specs.declared.verdicts.Verdict.the-variants.{Takes, Silent, Refuses}
+use Rattle.verdicts.specs.Verdicts.{firstRefusals, sentOnly, judgedIf, judged}
+use Rattle.verdicts.specs.declared.verdicts.Verdict.the-variants.{Takes, Silent, Refuses}
 use Rattle.lessons.proofs.Doing.{received, no}
 
 abbrev pub Good : Message → Type 0

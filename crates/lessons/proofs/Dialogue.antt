@@ -19,11 +19,15 @@ use Rattle.frame.specs.declared.messages.Reading.the-variants.{Read}
 use Rattle.judging.specs.Reading.{reading}
 use Rattle.places.specs.Runs.{Run, noRun, names, meaningOf, meant, readAs}
 use Rattle.history.specs.Standing.{Frame, address, sense, meaning, Known}
-use Rattle.bench.specs.Bench.{benchSize, ownAddress, store, done, replies}
-use Rattle.bench.specs.Taking.{replyBytes, judged, Outcome, kept, takenWith, given, outcomeOf, taking}
-use Rattle.bench.specs.declared.verdicts.Verdict.{Verdict}
-use Rattle.bench.specs.declared.verdicts.Verdict.the-variants.{Takes, Silent, Refuses}
-use Rattle.bench.specs.declared.taking.Taken.the-variants as taken
+use Rattle.replies.specs.Bench.{benchSize, ownAddress}
+use Rattle.bench.specs.Deeds.{store, done}
+use Rattle.replies.specs.Replies.{replies}
+use Rattle.bench.specs.Sending.{replyBytes}
+use Rattle.verdicts.specs.Verdicts.{judged}
+use Rattle.taking.specs.Taking.{Outcome, kept, takenWith, given, outcomeOf, taking}
+use Rattle.verdicts.specs.declared.verdicts.Verdict.{Verdict}
+use Rattle.verdicts.specs.declared.verdicts.Verdict.the-variants.{Takes, Silent, Refuses}
+use Rattle.taking.specs.declared.taking.Taken.the-variants as taken
 use Rattle.lessons.specs.Hearing.{Call, called, after, frameIn, heardOf, onTop, heardAfter}
 use Rattle.lessons.proofs.Agree.{Agree, hears, hears-own}
 use Rattle.lessons.proofs.Doing.{Sound, runOf, received, nothing-kept, no}

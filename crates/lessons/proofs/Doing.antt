@@ -22,7 +22,8 @@ use Rattle.frame.specs.declared.messages.Command.{Command}
 use Rattle.frame.specs.declared.messages.Command.the-variants.{TypeLong, TypeShort, Buttons, CellTold, BlockTold, CellAsked, BlockAsked, DumpAsked, CellSet, BlockSet, Errors, ErrorsAsked, NameOne, NameTwo, NameThree, NameAsked, StatusAsked, InputStatus, LedsAll, Leds, BlindStatus, BlindStop, BlindUp, BlindDown}
 use Rattle.places.specs.Runs.{Saying, silent, asks, tells, Run, saidFrom, run, noRun, bit, glowNumber, glowBy, ledBy, ledIf, runIn, meaningOf}
 use Rattle.history.specs.Standing.{Known}
-use Rattle.bench.specs.Bench.{benchSize, own, ownAddress, store, deed, doneBy}
+use Rattle.replies.specs.Bench.{benchSize, own, ownAddress}
+use Rattle.bench.specs.Deeds.{store, deed, doneBy}
 use Rattle.lessons.proofs.Agree.{Agree, hears, becomes, said-past, said-before, store-length, store-at, store-silent, Over, over-same, hears-done}
 
 -- every LED has one of the five states

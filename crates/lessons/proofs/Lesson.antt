@@ -34,12 +34,16 @@ use Rattle.history.specs.Standing.{Frame, address, sense, meaning, Known, unkno
 use Rattle.history.specs.Asked.{numberOf, oneTo, toldIf, overRow, eachOf, nameIn, countTold, toldAs, toldReply}
 use Rattle.history.specs.Demand3.{runBytes, Tells as TellsAll}
 use Rattle.history.specs.InMemory.{OneTo, cellOf}
-use Rattle.bench.specs.Leds.{ones}
-use Rattle.bench.specs.Bench.{own, ownAddress, leds, blocks, dump, store, done, status, typeTold, replies}
+use Rattle.replies.specs.Leds.{ones}
+use Rattle.replies.specs.Bench.{own, ownAddress, leds}
+use Rattle.replies.specs.Replies.{blocks, dump, status, typeTold, replies}
+use Rattle.bench.specs.Deeds.{store, done}
 use Rattle.frame.specs.declared.messages.Glow.the-variants.{On, Slow, Fast, VeryFast}
-use Rattle.bench.specs.Bench as bench
-use Rattle.bench.specs.Taking.{replyBytes, allBytes, sentOnly, judgedIf, judged, takenWith, taking}
-use Rattle.bench.specs.declared.verdicts.Verdict.the-variants.{Takes}
+use Rattle.replies.specs.Bench as bench
+use Rattle.bench.specs.Sending.{replyBytes, allBytes}
+use Rattle.verdicts.specs.Verdicts.{sentOnly, judgedIf, judged}
+use Rattle.taking.specs.Taking.{takenWith, taking}
+use Rattle.verdicts.specs.declared.verdicts.Verdict.the-variants.{Takes}
 use Rattle.bench.proofs.Storing.{dump-length}
 use Rattle.lessons.specs.Hearing.{Call, called, after, frameIn, framesIn, heardAfter, framesAt}
 use Rattle.lessons.specs.Lesson.{remoteTo, commandTo, Start, atStart, typeFrame, Listens, allHeard, Truthful, LessonShown, LessonHeard, Whole, DumpAndStatus, LessonWhole}

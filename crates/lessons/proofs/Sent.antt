@@ -31,8 +31,9 @@ use Rattle.places.specs.Runs.{names, meaningOf}
 use Rattle.history.specs.Standing.{sense}
 use Rattle.history.specs.Standing as history
 use Rattle.lessons.proofs.Doing.{runOf}
-use Rattle.bench.specs.Bench.{cell, dump, answers}
-use Rattle.bench.specs.Taking.{replyBytes, allBytes}
+use Rattle.replies.specs.Bench.{cell}
+use Rattle.replies.specs.Replies.{dump, answers}
+use Rattle.bench.specs.Sending.{replyBytes, allBytes}
 use Rattle.bench.proofs.Storing.{twelve-long}
 use Rattle.lessons.specs.Hearing.{frameIn, framesIn}
 

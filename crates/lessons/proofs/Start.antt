@@ -14,8 +14,8 @@ use Rattle.shape.specs.declared.answers.Outcome.the-variants.{Done, Refused}
 use Rattle.shape.specs.Limits.{addresses}
 use Rattle.shape.specs.Result.{Result}
 use Rattle.shape.specs.Result as result
-use Rattle.bench.specs.Bench.{benchSize, namedCells, own, ownAddress, newBench}
-use Rattle.bench.specs.Taking.{making}
+use Rattle.replies.specs.Bench.{benchSize, own, ownAddress}
+use Rattle.bench.specs.Making.{namedCells, newBench, making}
 use Rattle.bench.proofs.Storing.{new-long}
 use Rattle.lessons.proofs.Doing.{Sound}
 

@@ -13,7 +13,8 @@ use Rattle.frame.specs.declared.messages.Command.{Command}
 use Rattle.places.specs.Runs.{Saying, silent, tells, Run, saidFrom, said, telling, noRun, meaningOf}
 use Rattle.history.specs.Standing.{Known, told, after}
 use Rattle.history.specs.Asked.{countTold}
-use Rattle.bench.specs.Bench.{block, dump, cell}
+use Rattle.replies.specs.Replies.{block, dump}
+use Rattle.replies.specs.Bench.{cell}
 use Rattle.lessons.proofs.Doing.{runOf}
 use Rattle.lessons.proofs.Heard.{heardBy}
 

@@ -7,9 +7,9 @@ use lib.Dec.{eqb}
 use lib.ListN.{getD, take, drop}
 use Rattle.laws.specs.Limits.{AllBytes}
 use Rattle.history.specs.Standing.{Frame, address}
-use Rattle.bench.specs.Taking.{Outcome, taking}
-use Rattle.bench.specs.declared.taking.Taken.{Taken}
-use Rattle.bench.specs.declared.taking.Taken.the-variants.{Replies, Refused}
+use Rattle.taking.specs.Taking.{Outcome, taking}
+use Rattle.taking.specs.declared.taking.Taken.{Taken}
+use Rattle.taking.specs.declared.taking.Taken.the-variants.{Replies, Refused}
 
 -- a call: a frame, whose data are bytes, and the reply buffer lent with it
 pub record Call : Type 0 where

@@ -15,9 +15,9 @@ use Rattle.questions.specs.Replies.{reply}
 use Rattle.history.specs.Standing.{mostListed, deepest, Frame, address, listed, hear, standing}
 use Rattle.history.specs.Demand3.{doing, runBytes}
 use Rattle.history.specs.InMemory.{OneTo, cellOf}
-use Rattle.bench.specs.Bench.{own}
-use Rattle.bench.specs.Bench as bench
-use Rattle.bench.specs.Taking.{making}
+use Rattle.replies.specs.Bench.{own}
+use Rattle.replies.specs.Bench as bench
+use Rattle.bench.specs.Making.{making}
 use Rattle.lessons.specs.Hearing.{Call, called, after, frameIn, heardAfter, framesAt}
 
 -- ---- frames in numbers: of low priority, at the address a

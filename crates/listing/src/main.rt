@@ -2,7 +2,7 @@
 use libc::STDERR_FILENO;
 use libc::STDIN_FILENO;
 use libc::STDOUT_FILENO;
-use recording::Put;
+use recorder::Put;
 use replay::Part;
 use replay::Stream;
 use shape::Outcome;

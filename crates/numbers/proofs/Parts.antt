@@ -15,10 +15,10 @@ use lib.Seq.{drop-append-le}
 use lib.Dec.{ltb, eqb}
 use borrow.Author.Tests.{lt-ltb, le-ltb, ne-eqb, ltb-true, ltb-false, eqb-true, eqb-false}
 use Rattle.laws.proofs.Choices.{cond-elim}
-use Rattle.numbers.specs.declared.reads.Found.{Found}
-use Rattle.numbers.specs.declared.reads.Found.the-variants.{Value, Ends, Bad}
-use Rattle.numbers.specs.Number.{joined, readNumber}
-use Rattle.numbers.proofs.Reading.{different, groupsAt, Within, number-within}
+use Rattle.groups.specs.declared.reads.Found.{Found}
+use Rattle.groups.specs.declared.reads.Found.the-variants.{Value, Ends, Bad}
+use Rattle.groups.specs.Number.{joined, readNumber}
+use Rattle.groups.proofs.Reading.{different, groupsAt, Within, number-within}
 
 -- ---- a first part
 -- a choice that is not `none` stays where what is not chosen changes, and where what is not `none` stays

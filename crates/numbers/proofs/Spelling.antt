@@ -16,12 +16,12 @@ use borrow.Author.Tests.{lt-ltb, le-ltb, ne-eqb, ltb-true, ltb-false, eqb-false}
 use Rattle.laws.specs.Limits.{AllBytes}
 use Rattle.laws.proofs.Choices.{cond-elim}
 use Rattle.laws.proofs.Testing.{not-both}
-use Rattle.numbers.specs.declared.reads.Found.{Found}
-use Rattle.numbers.specs.declared.reads.Found.the-variants.{Value, Ends, Bad}
-use Rattle.numbers.specs.Number.{mostGroups, numberBytes, bytesOf, groupsOf, joined, readNumber, numberAt}
+use Rattle.groups.specs.declared.reads.Found.{Found}
+use Rattle.groups.specs.declared.reads.Found.the-variants.{Value, Ends, Bad}
+use Rattle.groups.specs.Number.{mostGroups, numberBytes, bytesOf, groupsOf, joined, readNumber, numberAt}
 use Rattle.numbers.specs.Statements.{isBad, most64, NumbersReadBack, ReadIsSpelt, MoreIsAllowed}
-use Rattle.numbers.proofs.Reading.{step, number-head, value-at}
-use Rattle.numbers.proofs.Writing.{bytes-last, bytes-more, bytes-length, holds, groups-hold, groups-rise}
+use Rattle.groups.proofs.Reading.{step, number-head, value-at}
+use Rattle.groups.proofs.Writing.{bytes-last, bytes-more, bytes-length, holds, groups-hold, groups-rise}
 
 -- ---- written and read
 -- the bytes of a number are the same, however many more groups are allowed than hold it

@@ -10,11 +10,11 @@ use Prim.Native.Nat.{ℕ, suc, _+_, _-_, _*_, _/_, _≤_, _<_}
 use native.Mathlib.Omega.{arith}
 use lib.ListN.{length, getD}
 use borrow.Author.Tests.{ne-eqb}
-use Rattle.numbers.specs.declared.reads.Found.the-variants.{Value}
-use Rattle.numbers.specs.Number.{mostGroups, groupsOf, numberAt}
+use Rattle.groups.specs.declared.reads.Found.the-variants.{Value}
+use Rattle.groups.specs.Number.{mostGroups, groupsOf, numberAt}
 use Rattle.numbers.specs.Statements.{most64}
-use Rattle.numbers.proofs.Reading.{groupsAt, number-last, number-joined}
-use Rattle.numbers.proofs.Writing.{holds, groups-hold}
+use Rattle.groups.proofs.Reading.{groupsAt, number-last, number-joined}
+use Rattle.groups.proofs.Writing.{holds, groups-hold}
 
 -- whatever is allowed, if only v is, and as many groups as hold it: the number at `at` is v
 abbrev pub Stands : List ℕ → ℕ → ℕ → ℕ → Type 0

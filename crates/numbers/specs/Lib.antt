@@ -1,3 +1,2 @@
-pub mod Number
-pub mod Write
+-- What holds of the numbers of crate groups.
 pub mod Statements

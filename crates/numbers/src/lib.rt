@@ -1,9 +1,5 @@
-// Seven-bit numbers: their reader and their writer.
+// Seven-bit numbers: the reader of the number at an offset.
 mod quick;
 mod reads;
-mod writes;
 
-pub use reads::Found;
 pub use reads::number;
-pub use writes::number_size;
-pub use writes::put_number;

@@ -1,10 +1,10 @@
 // The quick way to a number: where five groups have room no end needs a test. In any doubt the reader of groups judges.
-use crate::reads::wide;
+use groups::wide;
 ghost use mathlib.Core.Path.{_≡_};
 ghost use Prim.Native.Nat.{_+_, _<_, _≤_};
 ghost use lib.ListN.{length, getD};
-ghost use Rattle.numbers.specs.declared.reads.Found.the-variants.{Value};
-ghost use Rattle.numbers.specs.Number.{numberAt};
+ghost use Rattle.groups.specs.declared.reads.Found.the-variants.{Value};
+ghost use Rattle.groups.specs.Number.{numberAt};
 
 // A number, and the count of its groups: 0 where the quick way does not lead to one.
 pub(crate) struct Short {

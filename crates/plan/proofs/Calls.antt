@@ -28,13 +28,13 @@ use Rattle.questions.proofs.Filling.{length-filled, filled-at}
 use Rattle.questions.proofs.Replying.{not-heard, heard}
 use Rattle.questions.proofs.Extents.{few-cells}
 use Rattle.questions.proofs.RowBytes.{length-bytes, room-bytes}
-use Rattle.plan.specs.Reads.{lastStartOf}
-use Rattle.plan.specs.Plan.{planOf, leastReads}
-use Rattle.plan.specs.Judging.{rightPlan}
+use Rattle.reads.specs.Reads.{lastStartOf}
+use Rattle.reads.specs.Plan.{planOf, leastReads}
+use Rattle.reads.specs.Judging.{rightPlan}
 use Rattle.plan.specs.Replies.{rowAt, memoryIn, atModule, asEntries, laid, yesNo, startsIn, rightInBytes}
 use Rattle.plan.specs.Statements.{RowIsMemory, UnknownIsNotHeard, RowOfType, Written, WrittenIsPlan, PlanInBytes, OddByteIsNoEntry, RightInBytes, OddByteIsNoPlan}
 use Rattle.plan.proofs.CellRow.{row-length, row-cell}
-use Rattle.plan.proofs.Fewest.{count-is-least}
+use Rattle.reads.proofs.Fewest.{count-is-least}
 use Rattle.plan.proofs.Replying.{starts-length, listed-says}
 
 -- ---- the row is the module's

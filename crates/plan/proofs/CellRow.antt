@@ -11,10 +11,10 @@ use Rattle.laws.specs.Tab.{tab}
 use Rattle.laws.proofs.Tab.{length-tab, getD-tab, tab-snoc}
 use Rattle.shape.specs.Limits.{notHeard}
 use Rattle.questions.specs.Fills.{valueAt}
-use Rattle.plan.specs.Plan.{nextUnknown}
-use Rattle.plan.specs.Judging.{allLegal, missed}
+use Rattle.reads.specs.Plan.{nextUnknown}
+use Rattle.reads.specs.Judging.{allLegal, missed}
 use Rattle.plan.specs.Replies.{rowAt, startsIn}
-use Rattle.plan.proofs.Steps.{next-end, next-here, next-on}
+use Rattle.reads.proofs.Steps.{next-end, next-here, next-on}
 
 module _ (b : List ℕ) (at cells : ℕ) where
   pub row-length : length (rowAt b at cells) ≡ cells

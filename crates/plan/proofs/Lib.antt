@@ -1,11 +1,4 @@
-pub mod Tests
-pub mod Steps
 pub mod CellRow
-pub mod Fewest
 pub mod Turns
-pub mod Starts
-pub mod Judging
-pub mod Judged
 pub mod Replying
 pub mod Calls
-pub mod Cases

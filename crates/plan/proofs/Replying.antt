@@ -17,12 +17,12 @@ use Rattle.questions.specs.Replies.{slotAsked}
 use Rattle.questions.specs.Statements.{inBytes}
 use Rattle.questions.proofs.Extents.{few-cells}
 use Rattle.questions.proofs.RowBytes.{length-bytes}
-use Rattle.plan.specs.Reads.{block}
-use Rattle.plan.specs.Plan.{planOf, leastReads}
-use Rattle.plan.specs.Judging.{rightPlan}
+use Rattle.reads.specs.Reads.{block}
+use Rattle.reads.specs.Plan.{planOf, leastReads}
+use Rattle.reads.specs.Judging.{rightPlan}
 use Rattle.plan.specs.Replies.{rowAt, memoryIn, atModule, laid, startsIn, rightInBytes}
 use Rattle.plan.proofs.CellRow.{row-length}
-use Rattle.plan.proofs.Judging.{wrong-count}
+use Rattle.reads.proofs.Judging.{wrong-count}
 use Rattle.plan.proofs.Turns.{few-reads}
 
 -- ---- a call on the module at an address

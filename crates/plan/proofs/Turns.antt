@@ -9,11 +9,11 @@ use lib.Seq.{sets}
 use Rattle.laws.proofs.Stores.{sets-front}
 use Rattle.questions.specs.Statements.{inBytes}
 use Rattle.questions.proofs.RowBytes.{length-bytes}
-use Rattle.plan.specs.Reads.{block}
-use Rattle.plan.specs.Plan.{startFor, planOf, leastReads, nextUnknown}
+use Rattle.reads.specs.Reads.{block}
+use Rattle.reads.specs.Plan.{startFor, planOf, leastReads, nextUnknown}
 use Rattle.plan.specs.Replies.{rowAt}
-use Rattle.plan.proofs.Steps.{rest, rest-whole, rest-none, next-is, Turn, turn-more, Counted, count-room, left-less, count-more, count-all}
-use Rattle.plan.proofs.Fewest.{quarter-is-enough}
+use Rattle.reads.proofs.Steps.{rest, rest-whole, rest-none, next-is, Turn, turn-more, Counted, count-room, left-less, count-more, count-all}
+use Rattle.reads.proofs.Fewest.{quarter-is-enough}
 use Rattle.plan.proofs.CellRow.{row-length, past-row}
 
 -- ---- the count

@@ -1,8 +1,3 @@
--- Read in this order: Reads (what a right plan is), Plan (the plan of a row), Judging (the test of a proposed plan), Replies (the calls on a picture's
--- bytes), Statements (what is shown of them), Cases.
-pub mod Reads
-pub mod Plan
-pub mod Judging
+-- Read in this order, after those of crate reads: Replies (the calls on a picture's bytes), Statements (what is shown of them).
 pub mod Replies
 pub mod Statements
-pub mod Cases

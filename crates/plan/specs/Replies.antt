@@ -16,8 +16,8 @@ use Rattle.questions.specs.Question.{Reply, answering, value, refusing}
 use Rattle.questions.specs.Fills.{valueAt}
 use Rattle.questions.specs.Replies.{slotAsked}
 use Rattle.questions.specs.Statements.{inBytes}
-use Rattle.plan.specs.Plan.{planOf, leastReads}
-use Rattle.plan.specs.Judging.{rightPlan}
+use Rattle.reads.specs.Plan.{planOf, leastReads}
+use Rattle.reads.specs.Judging.{rightPlan}
 
 -- n neighbouring places, the first of which is at `at`, as numbers; and the memory row of the module in a slot
 unfoldable pub rowAt : List ℕ → ℕ → ℕ → List ℕ

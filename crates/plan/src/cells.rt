@@ -1,6 +1,8 @@
 // The cells of a module where they lie in a picture: so many neighbouring places, the first of which is at `at`.
 use laws::number16;
 use questions::first_cell;
+use reads::BLOCK;
+use reads::start_for;
 use shape::NOT_HEARD;
 use shape::place_at;
 ghost use mathlib.Core.Path.{_≡_};
@@ -10,12 +12,8 @@ ghost use Rattle.places.specs.Places.{cellRow};
 ghost use Rattle.shape.specs.Layout.{placeAt};
 ghost use Rattle.shape.specs.Head.{kindIn};
 ghost use Rattle.questions.specs.Fills.{valueAt};
-ghost use Rattle.plan.specs.Reads.{block, lastStartOf};
-ghost use Rattle.plan.specs.Plan.{startFor, nextUnknown, leastReads};
+ghost use Rattle.reads.specs.Plan.{nextUnknown, leastReads};
 ghost use Rattle.plan.specs.Replies.{rowAt};
-
-// How many cells a block read reads.
-pub(crate) const BLOCK: usize = 4;
 
 // Where the first cell of the module in a slot lies.
 pub(crate) fn memory_at(picture: &[u8], slot: u8) -> usize
@@ -30,21 +28,6 @@ pub(crate) fn number_at(picture: &[u8], at: usize) -> u16
     ensures { λ r. ⌜ r ≡ valueAt (now (picture .entry)) at ⌝ }
 {
     number16(picture[at], picture[at + 1])
-}
-
-// The last start allowed on a module of so many cells.
-pub(crate) fn last_start(cells: usize) -> usize
-    ensures { λ r. ⌜ r ≡ lastStartOf cells ⌝ }
-{
-    if cells < BLOCK { 0 } else { cells - BLOCK }
-}
-
-// The start of the read that is made for an unknown cell.
-pub(crate) fn start_for(cells: usize, cell: usize) -> usize
-    ensures { λ r. ⌜ r ≡ startFor cells cell ⌝ }
-{
-    let last = last_start(cells);
-    if last < cell { last } else { cell }
 }
 
 // The lowest unknown cell from `from` on; a cell past the last where there is none.

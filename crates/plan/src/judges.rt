@@ -1,6 +1,4 @@
 // The test of a proposed plan.
-use crate::cells::BLOCK;
-use crate::cells::last_start;
 use crate::cells::least;
 use crate::cells::memory_at;
 use crate::cells::number_at;
@@ -11,81 +9,22 @@ use places::PLACES;
 use questions::AddressAsked;
 use questions::cells_in;
 use questions::slot_asked;
+use reads::BLOCK;
+use reads::all_legal;
+use reads::is_missed;
 use shape::Answer;
-use shape::NOT_HEARD;
 use shape::ROOM;
 use shape::SIZE;
 ghost use mathlib.Core.Path.{_≡_};
 ghost use Prim.Native.Nat.{_+_, _*_, _/_, _<_, _≤_};
-ghost use lib.ListN.{length, take, drop};
+ghost use lib.ListN.{length, take};
 ghost use Rattle.shape.specs.Limits.{room};
 ghost use Rattle.shape.specs.Layout.{size};
-ghost use Rattle.plan.specs.Judging.{allLegal, reads, readBy, missed, noneMissed, rightPlan};
+ghost use Rattle.reads.specs.Judging.{noneMissed, rightPlan};
 ghost use Rattle.plan.specs.Replies.{rowAt, memoryIn, yesNo, rightAnswer, startsIn, rightInBytes, rightBytesAnswer};
 
 // No plan of any type has more starts.
 const MOST_STARTS: usize = PLACES / BLOCK;
-
-// A 16-bit number as an index.
-fn wide(x: u16) -> usize
-    ensures { λ r. ⌜ r ≡ x ⌝ }
-{
-    x as usize
-}
-
-// Whether each start is allowed on a module of so many cells.
-fn all_legal(cells: usize, starts: &[u16]) -> bool
-    ensures { λ r. ⌜ r ≡ allLegal cells (now (starts .entry)) ⌝ }
-{
-    let last = last_start(cells);
-    let mut i: usize = 0;
-    while i < starts.len() {
-        let start = wide(starts[i]);
-        if last < start {
-            return false;
-        }
-        i += 1;
-    }
-    true
-}
-
-// Whether a block read at start reads the cell.
-fn reads_cell(start: usize, cell: usize) -> bool
-    ensures { λ r. ⌜ r ≡ reads start cell ⌝ }
-{
-    if cell < start {
-        return false;
-    }
-    if BLOCK <= cell - start {
-        return false;
-    }
-    true
-}
-
-// Whether one of the reads reads the cell.
-fn read_by(starts: &[u16], cell: usize) -> bool
-    ensures { λ r. ⌜ r ≡ readBy (now (starts .entry)) cell ⌝ }
-{
-    let mut i: usize = 0;
-    while i < starts.len() {
-        if reads_cell(wide(starts[i]), cell) {
-            return true;
-        }
-        i += 1;
-    }
-    false
-}
-
-// Whether a cell with this value is unknown and none of the reads reads it.
-fn is_missed(starts: &[u16], cell: usize, value: u16) -> bool
-    ensures { λ r. ⌜ r ≡ missed (now (starts .entry)) cell value ⌝ }
-{
-    if value == NOT_HEARD {
-        !read_by(starts, cell)
-    } else {
-        false
-    }
-}
 
 // Whether no cell is missed.
 fn none_missed(picture: &[u8], at: usize, cells: usize, starts: &[u16]) -> bool

@@ -1,14 +1,14 @@
 // The plan, written into a lent list.
-use crate::cells::BLOCK;
 use crate::cells::least;
 use crate::cells::memory_at;
 use crate::cells::next_unknown;
-use crate::cells::start_for;
 use laws::TOO_SHORT;
 use laws::TYPE_NOT_KNOWN;
 use questions::AddressAsked;
 use questions::cells_in;
 use questions::slot_asked;
+use reads::BLOCK;
+use reads::start_for;
 use shape::Answer;
 use shape::ROOM;
 use shape::SIZE;
@@ -20,7 +20,7 @@ ghost use lib.ListN.{length, drop};
 ghost use Rattle.shape.specs.Limits.{room};
 ghost use Rattle.shape.specs.Layout.{size};
 ghost use Rattle.questions.specs.Statements.{inBytes};
-ghost use Rattle.plan.specs.Plan.{planOf, leastReads};
+ghost use Rattle.reads.specs.Plan.{planOf, leastReads};
 ghost use Rattle.plan.specs.Replies.{rowAt, memoryIn, asEntries, laid, planReply, planBytesReply};
 
 // Whether a list of so many entries holds the plan. One with an entry for each block of cells always does, so that the reads need not be counted first.

@@ -11,7 +11,7 @@ use libc::STDIN_FILENO;
 use libc::STDOUT_FILENO;
 use places::PLACES;
 use questions::AddressAsked;
-use recording::Put;
+use recorder::Put;
 use replay::Part;
 use replay::Stream;
 use shape::ADDRESSES;
@@ -129,7 +129,7 @@ fn put_frame(frame: Frame) {
 
 fn put_record(identifier: u32, remote: u32, data: &[u8]) {
     let mut out = [0u8; RECORD_ROOM];
-    match recording::put_record(&mut out, 0, 0, identifier, remote, data) {
+    match recorder::put_record(&mut out, 0, 0, identifier, remote, data) {
         Put::Wrote(count) => put_out(&out, count),
         Put::Refused(_) => tell(b"plan: there is no room for a record\n"),
     }

@@ -1,6 +1,5 @@
 // The questions on a picture: each is answered from the bytes that the caller lends, and changes none of them.
 mod asking;
-mod copying;
 mod names;
 mod rows;
 mod values;

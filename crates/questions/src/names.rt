@@ -1,7 +1,7 @@
 // The question on a name of a module: its sixteen characters as a row of numbers, or the same row as bytes, and how many of them are heard.
 use crate::asking::AddressAsked;
 use crate::asking::slot_asked;
-use crate::copying::fill_bytes;
+use crate::rows::fill_bytes;
 use crate::rows::fill_numbers;
 use laws::NO_SUCH_PLACE;
 use laws::TOO_SHORT;

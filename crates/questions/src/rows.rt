@@ -2,7 +2,7 @@
 use crate::asking::AddressAsked;
 use crate::asking::number_at;
 use crate::asking::slot_asked;
-use crate::copying::fill_bytes;
+use copying::copy_front;
 use frame::Address;
 use frame::Location;
 use laws::TOO_SHORT;
@@ -20,7 +20,7 @@ use shape::slot_of;
 use types::extent_of;
 ghost use mathlib.Core.Path.{_≡_};
 ghost use Prim.Native.Nat.{_+_, _*_, _<_, _≤_};
-ghost use lib.ListN.{length};
+ghost use lib.ListN.{length, getD};
 ghost use Rattle.shape.specs.Limits.{room, addresses};
 ghost use Rattle.shape.specs.Layout.{size};
 ghost use Rattle.places.specs.Places.{cellRow};
@@ -75,6 +75,15 @@ pub(crate) fn fill_numbers(picture: &[u8], at: usize, n: usize, out: &mut [u16])
         out[i] = number_at(picture, at + 2 * i);
         i += 1;
     }
+}
+
+// n bytes from `at` on, to the beginning of a buffer.
+pub(crate) fn fill_bytes(s: &[u8], at: usize, n: usize, out: &mut [u8])
+    requires { ⌜ (at + n ≤ length (now s)) × (n ≤ length (now out)) ⌝ }
+    ensures { λ _. ⌜ now (out .exit) ≡ filledTo (λ j. getD (now (s .entry)) (at + j) 0) (now (out .entry)) n ⌝ }
+{
+    let end = at + n;
+    copy_front(out, &s[at..end]);
 }
 
 // How many cells the module in a slot has, and where the first of them lies.

@@ -21,20 +21,20 @@ use lib.Dec.{ltb, leb}
 use borrow.Author.Tests.{leb-true, leb-false, le-leb, lt-ltb, le-ltb, ltb-false}
 use Rattle.laws.proofs.Choices.{cond-elim}
 use Rattle.laws.proofs.Testing.{not-both}
-use Rattle.numbers.specs.declared.reads.Found.{Found}
-use Rattle.numbers.specs.declared.reads.Found.the-variants.{Value, Ends, Bad}
+use Rattle.groups.specs.declared.reads.Found.{Found}
+use Rattle.groups.specs.declared.reads.Found.the-variants.{Value, Ends, Bad}
 use Rattle.recording.specs.declared.records.Entry.{Entry}
 use Rattle.recording.specs.declared.records.Entry.the-variants.{Record, End, Broken}
 use Rattle.laws.specs.Refusals.{cutOff, badNumber}
 use Rattle.recording.specs.Limits.{mostGap, gapGroups, mostWord, wordGroups, mostCount, countGroups, longest, oldMostGap}
-use Rattle.numbers.specs.Number.{groupsOf, numberAt}
+use Rattle.groups.specs.Number.{groupsOf, numberAt}
 use Rattle.recording.specs.Record.{after, readData, readCount, readWord, readWithin, readRecord, cutOffAt, badNumberAt}
 use Rattle.recording.specs.Statements.{Whole, RecordsAreWhole, FaultsArePlaced, LeftoverIsShort, OldRecordingsRead}
 use Rattle.recording.specs.Window.{settled}
-use Rattle.numbers.proofs.Reading.{different, Fits, number-last, value-at, bad-at, ends-at}
+use Rattle.groups.proofs.Reading.{different, Fits, number-last, value-at, bad-at, ends-at}
 use Rattle.numbers.specs.Statements.{isBad}
 use Rattle.numbers.proofs.Spelling.{more-is-allowed}
-use Rattle.recording.proofs.Writing.{in-range, gap-groups, word-groups, count-groups}
+use Rattle.recording.proofs.Ranges.{in-range, gap-groups, word-groups, count-groups}
 
 pub found : (s : List ℕ) (at : ℕ) (rest : ℕ → ℕ → Entry) {read r n : Found} → read ≡ r → read ≡ n → after s at r rest ≡ after s at n rest
 found s at rest e f = ap (λ (n : Found). after s at n rest) (sym e ∙ f)

@@ -1,6 +1,6 @@
 -- The examples hold: antt computes them. Assumes nothing.
 use mathlib.Core.Path.{refl}
-use Rattle.numbers.specs.Number.{numberBytes, readNumber}
+use Rattle.groups.specs.Number.{numberBytes, readNumber}
 use Rattle.recording.specs.Record.{readWithin}
 use Rattle.recording.specs.Statements.{ExamplesHold}
 

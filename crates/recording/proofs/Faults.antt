@@ -14,19 +14,19 @@ use borrow.Author.Tests.{lt-ltb, le-ltb, le-leb, leb-true, leb-false, ltb-true, 
 use Rattle.laws.specs.Limits.{AllBytes}
 use Rattle.laws.proofs.Choices.{cond-elim}
 use Rattle.laws.proofs.Testing.{not-both}
-use Rattle.numbers.specs.declared.reads.Found.{Found}
-use Rattle.numbers.specs.declared.reads.Found.the-variants.{Value, Ends, Bad}
+use Rattle.groups.specs.declared.reads.Found.{Found}
+use Rattle.groups.specs.declared.reads.Found.the-variants.{Value, Ends, Bad}
 use Rattle.recording.specs.declared.records.Entry.{Entry}
 use Rattle.recording.specs.declared.records.Entry.the-variants.{Record, End, Broken}
 use Rattle.recording.specs.Limits.{mostGap, mostWord, mostCount}
-use Rattle.numbers.specs.Number.{groupsOf, readNumber, numberAt}
+use Rattle.groups.specs.Number.{groupsOf, readNumber, numberAt}
 use Rattle.recording.specs.Record.{after, readData, readCount, readWord, readWithin, readRecord, cutOffAt, badNumberAt}
 use Rattle.recording.specs.Window.{settled, isRecord}
 use Rattle.recording.specs.Statements.{FaultIsCertain, MendableIsCut}
-use Rattle.numbers.proofs.Reading.{different, bad-at}
+use Rattle.groups.proofs.Reading.{different, bad-at}
 use Rattle.numbers.proofs.Parts.{cond-moves, cutNumber, number-at-cut, Past, number-past}
 use Rattle.recording.proofs.Windows.{window-settles}
-use Rattle.recording.proofs.Writing.{gap-groups}
+use Rattle.recording.proofs.Ranges.{gap-groups}
 use Rattle.recording.proofs.Entries.{entry-elim}
 
 -- an entry, where only the bytes before the offset `end` are read

@@ -1,7 +1,6 @@
-pub mod Writing
+pub mod Ranges
 pub mod Entries
 pub mod Windows
 pub mod Faults
 pub mod Mending
-pub mod RoundTrip
 pub mod Examples

@@ -13,18 +13,18 @@ use lib.Dec.{ltb}
 use borrow.Author.Tests.{lt-ltb, le-leb, ltb-true}
 use Rattle.laws.specs.Limits.{AllBytes}
 use Rattle.laws.proofs.Testing.{not-both}
-use Rattle.numbers.specs.declared.reads.Found.{Found}
-use Rattle.numbers.specs.declared.reads.Found.the-variants.{Value, Ends, Bad}
+use Rattle.groups.specs.declared.reads.Found.{Found}
+use Rattle.groups.specs.declared.reads.Found.the-variants.{Value, Ends, Bad}
 use Rattle.recording.specs.declared.records.Entry.{Entry}
 use Rattle.recording.specs.declared.records.Entry.the-variants.{End}
 use Rattle.recording.specs.Limits.{mostGap, mostWord, mostCount, longest}
-use Rattle.numbers.specs.Number.{groupsOf, readNumber, numberAt}
+use Rattle.groups.specs.Number.{groupsOf, readNumber, numberAt}
 use Rattle.recording.specs.Record.{after, readData, readCount, readWord, readWithin, readRecord, cutOffAt}
 use Rattle.recording.specs.Window.{settled, isRecord}
 use Rattle.recording.specs.Statements.{CutCanBeMended}
-use Rattle.numbers.proofs.Reading.{different, number-last, value-at}
+use Rattle.groups.proofs.Reading.{different, number-last, value-at}
 use Rattle.numbers.proofs.Parts.{number-stays, Ended, number-mends}
-use Rattle.recording.proofs.Writing.{gap-groups, word-groups, count-groups}
+use Rattle.recording.proofs.Ranges.{gap-groups, word-groups, count-groups}
 use Rattle.recording.proofs.Entries.{faults-are-placed}
 
 module _ (s : List ℕ) where

@@ -12,16 +12,16 @@ use lib.Seq.{drop-append-add}
 use lib.Dec.{ltb, leb}
 use borrow.Author.Tests.{lt-ltb, le-leb, ltb-true, leb-true}
 use Rattle.laws.proofs.Choices.{same-test}
-use Rattle.numbers.specs.declared.reads.Found.{Found}
-use Rattle.numbers.specs.declared.reads.Found.the-variants.{Value, Ends, Bad}
+use Rattle.groups.specs.declared.reads.Found.{Found}
+use Rattle.groups.specs.declared.reads.Found.the-variants.{Value, Ends, Bad}
 use Rattle.recording.specs.declared.records.Entry.{Entry}
 use Rattle.recording.specs.declared.records.Entry.the-variants.{Record, End}
 use Rattle.recording.specs.Limits.{mostGap, mostWord, mostCount}
-use Rattle.numbers.specs.Number.{groupsOf, readNumber, numberAt}
+use Rattle.groups.specs.Number.{groupsOf, readNumber, numberAt}
 use Rattle.recording.specs.Record.{after, readData, readCount, readWord, readWithin, readRecord, cutOffAt}
 use Rattle.recording.specs.Window.{settled, further}
 use Rattle.recording.specs.Statements.{WindowSettles, WindowMoves}
-use Rattle.numbers.proofs.Reading.{different, value-at}
+use Rattle.groups.proofs.Reading.{different, value-at}
 use Rattle.numbers.proofs.Parts.{number-stays, moved, cond-moves, number-moves}
 
 module _ (s t : List ℕ) where

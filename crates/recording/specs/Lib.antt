@@ -1,6 +1,5 @@
 pub mod Limits
 pub mod Record
-pub mod Write
 pub mod Window
 pub mod Examples
 pub mod Statements

@@ -1,5 +1,7 @@
 -- The numbers that the paper fixes for recordings.
 use Prim.Native.Nat.{ℕ, _+_, _*_}
+use mathlib.Core.Bool.{Bool, _&&_}
+use lib.Dec.{leb}
 use Rattle.laws.specs.Limits.{mostIdentifier, mostBytes}
 
 -- a gap up to; the unit is not in the file
@@ -37,3 +39,7 @@ countGroups = 1
 -- so a record has at most so many bytes
 abbrev pub longest : ℕ
 longest = gapGroups + wordGroups + countGroups + mostCount
+
+-- every number of a record is in its range
+unfoldable pub inRange : ℕ → ℕ → ℕ → ℕ → Bool
+inRange gap identifier remote count = leb gap mostGap && (leb identifier mostIdentifier && (leb remote mostRemote && leb count mostCount))

@@ -4,13 +4,13 @@ use mathlib.Core.List.{List}
 use mathlib.Core.Bool.{cond}
 use lib.Dec.{ltb, leb}
 use lib.ListN.{length}
-use Rattle.numbers.specs.declared.reads.Found.{Found}
-use Rattle.numbers.specs.declared.reads.Found.the-variants.{Value, Ends, Bad}
+use Rattle.groups.specs.declared.reads.Found.{Found}
+use Rattle.groups.specs.declared.reads.Found.the-variants.{Value, Ends, Bad}
 use Rattle.recording.specs.declared.records.Entry.{Entry}
 use Rattle.recording.specs.declared.records.Entry.the-variants.{Record, End, Broken}
 use Rattle.laws.specs.Refusals.{cutOff, badNumber}
 use Rattle.recording.specs.Limits.{mostGap, mostWord, mostCount}
-use Rattle.numbers.specs.Number.{numberAt}
+use Rattle.groups.specs.Number.{numberAt}
 
 -- the input, of n bytes, ends inside a record: the offset is its length
 abbrev pub cutOffAt : ℕ → Entry

@@ -1,17 +1,15 @@
--- What holds of recordings; proofs/ proves each statement.
-use Prim.Native.Nat.{ℕ, _+_, _-_, _≤_, _<_}
+-- What holds of recordings that are read; proofs/ proves each statement.
+use Prim.Native.Nat.{ℕ, _+_, _≤_, _<_}
 use mathlib.Core.Path.{_≡_}
 use mathlib.Core.List.{List, _++_, map}
 use mathlib.Core.Bool.{true, false}
 use mathlib.Core.Logic.{_⊎_}
-use lib.ListN.{length, take, drop}
+use lib.ListN.{length, take}
 use Rattle.recording.specs.declared.records.Entry.the-variants.{Record, Broken}
-use Rattle.recording.specs.declared.writes.Put.the-variants.{Wrote}
 use Rattle.laws.specs.Refusals.{cutOff, badNumber}
 use Rattle.laws.specs.Limits.{AllBytes}
-use Rattle.recording.specs.Limits.{longest, oldMostGap}
+use Rattle.recording.specs.Limits.{longest, oldMostGap, inRange}
 use Rattle.recording.specs.Record.{readWithin, readRecord}
-use Rattle.recording.specs.Write.{inRange, recordBytes, putAnswer, putBytes}
 use Rattle.recording.specs.Window.{settled, isRecord, further}
 use Rattle.recording.specs.Examples.{examples, Row}
 
@@ -49,29 +47,6 @@ abbrev pub MendableIsCut : Type 0
 MendableIsCut =
     (s t : List ℕ) (at : ℕ) → at < length s → isRecord (readRecord s at) ≡ false → isRecord (readRecord (s ++ t) at) ≡ true
     → readRecord s at ≡ Broken 15 (length s)
-
--- at `at` of the input s stands, up to `next`, the record of these numbers and data
-abbrev pub StandsAt : List ℕ → ℕ → ℕ → ℕ → ℕ → List ℕ → ℕ → Type 0
-StandsAt s at gap identifier remote ds next =
-    (readRecord s at ≡ Record gap identifier remote (next - length ds) (length ds) next) × (take (length ds) (drop (next - length ds) s) ≡ ds)
-
--- a record's bytes read back as the record, whatever stands before and after
-abbrev pub BytesReadBack : Type 0
-BytesReadBack =
-    (before after : List ℕ) (gap identifier remote : ℕ) (ds : List ℕ) → inRange gap identifier remote (length ds) ≡ true
-    → StandsAt (before ++ (recordBytes gap identifier remote ds ++ after)) (length before) gap identifier remote ds (length before + length (recordBytes gap identifier remote ds))
-
--- a record that the writer put at a place is read at that place
-abbrev pub WrittenIsRead : Type 0
-WrittenIsRead =
-    (b : List ℕ) (at gap identifier remote : ℕ) (ds : List ℕ) (n : ℕ) → putAnswer b at gap identifier remote ds ≡ Wrote n
-    → StandsAt (putBytes b at gap identifier remote ds) at gap identifier remote ds (at + n)
-
--- a record that is read, and written again where it was, is the same bytes
-abbrev pub ReadIsWritten : Type 0
-ReadIsWritten =
-    (s : List ℕ) → AllBytes s → (at gap identifier remote start len next : ℕ) → readRecord s at ≡ Record gap identifier remote start len next
-    → (putAnswer s at gap identifier remote (take len (drop start s)) ≡ Wrote (next - at)) × (putBytes s at gap identifier remote (take len (drop start s)) ≡ s)
 
 -- what is settled in a first part s of the input stands in the whole of it
 abbrev pub WindowSettles : Type 0

@@ -1,10 +1,10 @@
-// Recordings: records, with their reader and their writer.
+// Recordings: the reader of records.
 mod limits;
 mod quick;
 mod records;
-mod writes;
 
+pub use limits::MOST_COUNT;
+pub use limits::MOST_GAP;
+pub use limits::MOST_REMOTE;
 pub use records::Entry;
 pub use records::read_record;
-pub use writes::Put;
-pub use writes::put_record;

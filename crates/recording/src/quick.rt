@@ -3,14 +3,14 @@
 use crate::limits::LONGEST;
 use crate::limits::MOST_GAP;
 use crate::limits::MOST_WORD;
-use numbers::Found;
+use groups::Found;
 use numbers::number;
 ghost use mathlib.Core.Path.{_≡_};
 ghost use Prim.Native.Nat.{_+_, _-_, _/_, _%_, _<_, _≤_};
 ghost use lib.ListN.{length};
-ghost use Rattle.numbers.specs.declared.reads.Found.the-variants.{Value};
+ghost use Rattle.groups.specs.declared.reads.Found.the-variants.{Value};
 ghost use Rattle.recording.specs.Limits.{mostGap, mostCount, countGroups};
-ghost use Rattle.numbers.specs.Number.{numberAt};
+ghost use Rattle.groups.specs.Number.{numberAt};
 ghost use Rattle.recording.specs.Record.{readCount, readRecord};
 
 // The greatest number of two groups.

@@ -1,12 +1,12 @@
 // A bench module to teach on, for the classroom: reads a recording of commands from standard input, and writes to standard output a recording of the
 // commands that the bench took, each with the bench's replies after it. A command that is refused is told on standard error, and is not written.
-use bench::Taken;
 use libc::STDERR_FILENO;
 use libc::STDIN_FILENO;
 use libc::STDOUT_FILENO;
+use recorder::Put;
 use recording::Entry;
-use recording::Put;
 use shape::Outcome;
+use taking::Taken;
 
 // Where no argument names them: the address, the map version and the build. A cell then holds its own location.
 const ADDRESS: u32 = 0x2A;
@@ -119,7 +119,7 @@ fn put_after(
     remote: u32,
     data: &[u8],
 ) -> usize {
-    let Put::Wrote(n) = recording::put_record(out, at, gap, identifier, remote, data) else {
+    let Put::Wrote(n) = recorder::put_record(out, at, gap, identifier, remote, data) else {
         return at;
     };
     std::num::wrapping_add_usize(at, n)
@@ -173,7 +173,7 @@ fn command(
     data: &[u8],
 ) -> bool {
     let mut replies = [0u8; REPLIES];
-    match bench::bench_take(bench, identifier, remote, data, &mut replies) {
+    match taking::bench_take(bench, identifier, remote, data, &mut replies) {
         Taken::Replies(count) => {
             let mut out = io::buffer();
             let first = put_after(&mut out, 0, gap, identifier, remote, data);

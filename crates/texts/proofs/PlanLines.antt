@@ -18,8 +18,8 @@ use Rattle.shape.specs.Head.{kindIn}
 use Rattle.questions.specs.Question.{Reply, value, refusing}
 use Rattle.questions.specs.Replies.{slotAsked}
 use Rattle.questions.proofs.Extents.{few-cells}
-use Rattle.plan.specs.Reads.{block}
-use Rattle.plan.specs.Plan.{planOf, leastReads}
+use Rattle.reads.specs.Reads.{block}
+use Rattle.reads.specs.Plan.{planOf, leastReads}
 use Rattle.plan.specs.Replies.{memoryIn, asEntries, laid, planReply}
 use Rattle.plan.proofs.Turns.{few-reads}
 use Rattle.plan.proofs.Replying.{listed-says, laid-done}

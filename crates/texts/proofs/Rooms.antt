@@ -17,13 +17,13 @@ use Rattle.laws.specs.Refusals.{tooShort}
 use Rattle.laws.specs.Copies.{copiedIn}
 use Rattle.shape.specs.Layout.{size}
 use Rattle.shape.specs.Limits.{addresses}
-use Rattle.recording.specs.declared.writes.Put.{Put}
-use Rattle.recording.specs.declared.writes.Put.the-variants as put
+use Rattle.recorder.specs.declared.writes.Put.{Put}
+use Rattle.recorder.specs.declared.writes.Put.the-variants as put
 use Rattle.replay.specs.declared.window.Stream.{Stream}
 use Rattle.texts.specs.Text.{Fits, Written}
 use Rattle.texts.specs.Listing.{listingText, listingAnswer, listingBytes}
 use Rattle.texts.specs.TextStatements.{lineRoom, PutIsInside}
-use Rattle.numbers.proofs.Reading.{different}
+use Rattle.groups.proofs.Reading.{different}
 use Rattle.texts.proofs.Texts.{room-is-enough}
 use Rattle.texts.proofs.Listings.{listing-fits}
 

@@ -11,8 +11,8 @@ use Rattle.questions.specs.Question.{type-of}
 use Rattle.questions.specs.Replies.{reply}
 use Rattle.shape.specs.Limits.{addresses}
 use Rattle.types.specs.Types.{extentOf}
-use Rattle.recording.specs.declared.writes.Put.{Put}
-use Rattle.recording.specs.declared.writes.Put.the-variants as put
+use Rattle.recorder.specs.declared.writes.Put.{Put}
+use Rattle.recorder.specs.declared.writes.Put.the-variants as put
 use Rattle.replay.specs.declared.window.Stream.{Stream}
 use Rattle.replay.specs.Replay.{withRoom}
 use Rattle.texts.specs.Lines.{header, moduleLine, brokenLine, countLine}

@@ -7,8 +7,8 @@ use lib.ListN.{length, getD, drop}
 use Rattle.laws.specs.Refusals.{tooShort}
 use Rattle.places.specs.Places.{places}
 use Rattle.questions.specs.Question.{Reply, value, refusing}
-use Rattle.plan.specs.Reads.{block}
-use Rattle.plan.specs.Plan.{planOf}
+use Rattle.reads.specs.Reads.{block}
+use Rattle.reads.specs.Plan.{planOf}
 use Rattle.plan.specs.Replies.{memoryIn, atModule}
 use Rattle.texts.specs.Text.{letters, inHex}
 use Rattle.texts.specs.Lines.{numbered}

@@ -4,7 +4,7 @@ use mathlib.Core.Path.{_≡_}
 use mathlib.Core.List.{List, _++_}
 use lib.ListN.{length, take, drop}
 use Rattle.shape.specs.Limits.{addresses}
-use Rattle.recording.specs.declared.writes.Put.the-variants.{Wrote}
+use Rattle.recorder.specs.declared.writes.Put.the-variants.{Wrote}
 use Rattle.replay.specs.declared.window.Stream.{Stream}
 use Rattle.texts.specs.Text.{Written, letters}
 use Rattle.texts.specs.Lines.{header, moduleLine, brokenLine, countLine}

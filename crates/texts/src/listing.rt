@@ -9,7 +9,7 @@ use laws::TOO_SHORT;
 use laws::copy_in;
 use laws::wide32;
 use questions::AddressAsked;
-use recording::Put;
+use recorder::Put;
 use replay::Stream;
 use shape::ADDRESSES;
 use shape::Answer;

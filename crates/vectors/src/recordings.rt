@@ -13,8 +13,8 @@ use crate::text::part;
 use crate::text::past;
 use crate::words::ROOM;
 use crate::words::Reader;
+use recorder::Put;
 use recording::Entry;
-use recording::Put;
 use replay::Part;
 use replay::Replayed;
 use replay::Stream;
@@ -46,7 +46,7 @@ fn put_into(room: &mut [u8], r: Reader, data: &[u8]) -> Put {
     if n > room.len() {
         return Put::Refused(NO_CALL);
     }
-    recording::put_record(&mut room[0..n], r.a as usize, r.gap, r.c, r.d, data)
+    recorder::put_record(&mut room[0..n], r.a as usize, r.gap, r.c, r.d, data)
 }
 
 // Whether bytes are one record, with these numbers and this many bytes of data.

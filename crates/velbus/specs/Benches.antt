@@ -1,7 +1,7 @@
 -- The result word of a frame taken by a bench.
 use Prim.Native.Nat.{ℕ}
-use Rattle.bench.specs.Taking.{takenNumbers}
-use Rattle.bench.specs.declared.taking.Taken.{Taken}
+use Rattle.taking.specs.Taking.{takenNumbers}
+use Rattle.taking.specs.declared.taking.Taken.{Taken}
 use Rattle.velbus.specs.Words.{word}
 
 -- the number of replies, or the refusal

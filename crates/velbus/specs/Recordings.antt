@@ -1,7 +1,7 @@
 -- The result word of a record put into a buffer.
 use Prim.Native.Nat.{ℕ}
-use Rattle.recording.specs.declared.writes.Put.{Put}
-use Rattle.recording.specs.Write.{putNumbers}
+use Rattle.recorder.specs.declared.writes.Put.{Put}
+use Rattle.recorder.specs.Write.{putNumbers}
 use Rattle.velbus.specs.Words.{word}
 
 -- the count of the bytes written (a record has 16 at most), or the refusal

@@ -1,10 +1,11 @@
 // A bench module to teach on, in lent bytes.
 use crate::words::outcome_word;
 use crate::words::refused;
-use bench::Taken;
+use taking::Taken;
 ghost use mathlib.Core.Path.{_≡_};
-ghost use Rattle.bench.specs.Bench.{benchSize};
-ghost use Rattle.bench.specs.Taking.{making, taking};
+ghost use Rattle.replies.specs.Bench.{benchSize};
+ghost use Rattle.bench.specs.Making.{making};
+ghost use Rattle.taking.specs.Taking.{taking};
 ghost use Rattle.velbus.specs.Words.{outcomeWord};
 ghost use Rattle.velbus.specs.Benches.{takenWord};
 
@@ -51,5 +52,5 @@ pub extern "C" fn velbus_bench_take(
     ensures { λ _. ⌜ now (bench .exit) ≡ taking (now (bench .entry)) identifier remote (now («data» .entry)) (now (out .entry)) .bench ⌝ }
     ensures { λ _. ⌜ now (out .exit) ≡ taking (now (bench .entry)) identifier remote (now («data» .entry)) (now (out .entry)) .buffer ⌝ }
 {
-    taken_word(bench::bench_take(bench, identifier, remote, data, out))
+    taken_word(taking::bench_take(bench, identifier, remote, data, out))
 }

@@ -1,8 +1,8 @@
 // Records put into a lent buffer.
 use crate::words::refused;
-use recording::Put;
+use recorder::Put;
 ghost use mathlib.Core.Path.{_≡_};
-ghost use Rattle.recording.specs.Write.{putAnswer, putBytes};
+ghost use Rattle.recorder.specs.Write.{putAnswer, putBytes};
 ghost use Rattle.velbus.specs.Recordings.{putWord};
 
 fn put_word(put: Put) -> u32
@@ -26,5 +26,5 @@ pub extern "C" fn velbus_put_record(
     ensures { λ r. ⌜ r ≡ putWord (putAnswer (now (buffer .entry)) at gap identifier remote (now («data» .entry))) ⌝ }
     ensures { λ _. ⌜ now (buffer .exit) ≡ putBytes (now (buffer .entry)) at gap identifier remote (now («data» .entry)) ⌝ }
 {
-    put_word(recording::put_record(buffer, at, gap, identifier, remote, data))
+    put_word(recorder::put_record(buffer, at, gap, identifier, remote, data))
 }

@@ -1,5 +1,5 @@
 -- `bench::deeds::act` meets its contract. Assumes nothing.
-use Rattle.bench.specs.Bench.{store}
+use Rattle.bench.specs.Deeds.{store}
 use borrow.Author.Needs.{needs}
 use Rattle.bench.proofs.deeds.act.Statement.{statement}
 use Rattle.bench.proofs.deeds.act.Tie as tie

@@ -1,5 +1,5 @@
 -- `bench::deeds::act_on` meets its contract. Assumes nothing.
-use Rattle.bench.specs.Bench.{done}
+use Rattle.bench.specs.Deeds.{done}
 use borrow.Author.Needs.{needs}
 use Rattle.bench.proofs.deeds.act_on.Statement.{statement}
 use Rattle.bench.proofs.deeds.act_on.Tie as tie

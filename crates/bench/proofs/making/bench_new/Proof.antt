@@ -1,5 +1,5 @@
 -- `bench::making::bench_new` meets its contract. Assumes nothing.
-use Rattle.bench.specs.Taking.{making}
+use Rattle.bench.specs.Making.{making}
 use borrow.Author.Tests.{lt-ltb, le-ltb, le-leb, lt-leb, eq-eqb, ne-eqb}
 use borrow.Author.Needs.{needs}
 use Rattle.bench.proofs.making.bench_new.Statement.{statement}

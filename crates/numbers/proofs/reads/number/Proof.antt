@@ -3,8 +3,8 @@ use mathlib.Core.Path.{ap, _∙_}
 use Prim.Native.Nat.{ℕ}
 use native.Mathlib.Omega.{arith}
 use borrow.Author.Needs.{needs}
-use Rattle.numbers.specs.Number.{groupsOf}
-use Rattle.numbers.proofs.Reading.{groupsAt, number-end}
+use Rattle.groups.specs.Number.{groupsOf}
+use Rattle.groups.proofs.Reading.{groupsAt, number-end}
 use Rattle.numbers.proofs.reads.number.Statement.{statement}
 use Rattle.numbers.proofs.reads.number.Tie as tie
 

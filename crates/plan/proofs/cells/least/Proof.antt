@@ -4,7 +4,7 @@ use native.Mathlib.Omega.{arith}
 use lib.ListN.{length}
 use Rattle.plan.specs.Replies.{rowAt}
 use Rattle.plan.proofs.CellRow.{row-length}
-use Rattle.plan.proofs.Steps.{rest, Counted, count-first}
+use Rattle.reads.proofs.Steps.{rest, Counted, count-first}
 use Rattle.plan.proofs.Turns.{few-reads, more-to-read, fewer-left, one-more, all-read}
 use Rattle.plan.proofs.cells.least.Statement.{statement}
 use Rattle.plan.proofs.cells.least.Tie as tie

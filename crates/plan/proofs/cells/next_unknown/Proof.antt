@@ -4,7 +4,7 @@ use native.Mathlib.Omega.{arith}
 use Prim.Native.Nat.{_-_}
 use mathlib.Core.Path.{_≡_, refl, sym, _∙_}
 use lib.ListN.{drop}
-use Rattle.plan.specs.Plan.{nextUnknown}
+use Rattle.reads.specs.Plan.{nextUnknown}
 use Rattle.plan.specs.Replies.{rowAt}
 use Rattle.plan.proofs.CellRow.{found-here, none-here, none-left}
 use Rattle.plan.proofs.cells.next_unknown.Statement.{statement}

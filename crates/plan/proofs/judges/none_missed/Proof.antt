@@ -3,9 +3,9 @@ use borrow.Author.Needs.{needs}
 use Prim.Native.Nat.{_-_}
 use mathlib.Core.Path.{_≡_, refl, sym, _∙_}
 use lib.ListN.{drop}
-use Rattle.plan.specs.Judging.{noneMissed}
+use Rattle.reads.specs.Judging.{noneMissed}
 use Rattle.plan.specs.Replies.{rowAt}
-use Rattle.plan.proofs.Judging.{none-end, none-stop, none-on}
+use Rattle.reads.proofs.Judging.{none-end, none-stop, none-on}
 use Rattle.plan.proofs.CellRow.{in-row, past-row, judged-cell}
 use Rattle.plan.proofs.judges.none_missed.Statement.{statement}
 use Rattle.plan.proofs.judges.none_missed.Tie as tie

@@ -2,7 +2,7 @@
 use borrow.Author.Needs.{needs}
 use Rattle.plan.specs.Replies.{rowAt}
 use Rattle.plan.proofs.CellRow.{legal-row}
-use Rattle.plan.proofs.Judging.{wrong-count, wrong-start, right-by}
+use Rattle.reads.proofs.Judging.{wrong-count, wrong-start, right-by}
 use Rattle.plan.proofs.judges.right_among.Statement.{statement}
 use Rattle.plan.proofs.judges.right_among.Tie as tie
 

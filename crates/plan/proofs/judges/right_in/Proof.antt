@@ -3,7 +3,7 @@ use borrow.Author.Needs.{needs}
 use mathlib.Core.Path.{ap, _∙_}
 use mathlib.Core.List.{List}
 use Prim.Native.Nat.{ℕ}
-use Rattle.plan.specs.Judging.{rightPlan}
+use Rattle.reads.specs.Judging.{rightPlan}
 use Rattle.plan.proofs.Replying.{memory-inside, memory-row}
 use Rattle.plan.proofs.judges.right_in.Statement.{statement}
 use Rattle.plan.proofs.judges.right_in.Tie as tie

@@ -3,7 +3,7 @@ use borrow.Author.Needs.{needs}
 use native.Mathlib.Omega.{arith}
 use mathlib.Core.Path.{sym}
 use borrow.Author.Tests.{le-leb}
-use Rattle.plan.specs.Plan.{leastReads}
+use Rattle.reads.specs.Plan.{leastReads}
 use Rattle.plan.specs.Replies.{rowAt}
 use Rattle.plan.proofs.Turns.{few-reads}
 use Rattle.plan.proofs.plans.fits.Statement.{statement}

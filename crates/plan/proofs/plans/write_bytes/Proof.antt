@@ -8,7 +8,7 @@ use lib.ListN.{length, length-set}
 use Rattle.questions.specs.Statements.{inBytes}
 use Rattle.plan.specs.Replies.{rowAt}
 use Rattle.plan.proofs.CellRow.{row-length}
-use Rattle.plan.proofs.Steps.{rest, Counted, count-first}
+use Rattle.reads.proofs.Steps.{rest, Counted, count-first}
 use Rattle.plan.proofs.Turns.{few-reads, more-to-read, fewer-left, one-more, all-read, left-of, Left, all-left, bytes-more, bytes-all}
 use Rattle.plan.proofs.plans.write_bytes.Statement.{statement}
 use Rattle.plan.proofs.plans.write_bytes.Tie as tie

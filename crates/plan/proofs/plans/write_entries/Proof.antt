@@ -6,7 +6,7 @@ use mathlib.Core.Path.{_≡_, refl}
 use lib.ListN.{length, length-set}
 use Rattle.plan.specs.Replies.{rowAt}
 use Rattle.plan.proofs.CellRow.{row-length}
-use Rattle.plan.proofs.Steps.{rest, Counted, count-first}
+use Rattle.reads.proofs.Steps.{rest, Counted, count-first}
 use Rattle.plan.proofs.Turns.{few-reads, more-to-read, fewer-left, one-more, all-read, left-of, Left, all-left, entry-more, entries-all}
 use Rattle.plan.proofs.plans.write_entries.Statement.{statement}
 use Rattle.plan.proofs.plans.write_entries.Tie as tie

@@ -3,11 +3,11 @@ use Prim.Native.Nat.{_+_, _-_}
 use mathlib.Core.Path.{_≡_, sym, ap, _∙_}
 use native.Mathlib.Omega.{arith}
 use borrow.Author.Needs.{needs}
-use Rattle.numbers.specs.declared.reads.Found.the-variants.{Value}
+use Rattle.groups.specs.declared.reads.Found.the-variants.{Value}
 use Rattle.numbers.proofs.Standing.{nothing-found}
 use Rattle.recording.specs.Limits.{mostGap, gapGroups}
 use Rattle.recording.proofs.Entries.{fits-at}
-use Rattle.recording.proofs.Writing.{gap-groups}
+use Rattle.recording.proofs.Ranges.{gap-groups}
 use Rattle.recording.proofs.quick.long_gap.Statement.{statement}
 use Rattle.recording.proofs.quick.long_gap.Tie as tie
 

@@ -5,7 +5,7 @@ use native.Mathlib.Omega.{arith}
 use borrow.Author.Needs.{needs}
 use Rattle.numbers.proofs.Standing.{nothing-found}
 use Rattle.recording.specs.Limits.{mostGap, gapGroups}
-use Rattle.recording.proofs.Writing.{gap-groups}
+use Rattle.recording.proofs.Ranges.{gap-groups}
 use Rattle.recording.proofs.Entries.{fits-at, headed, head-room}
 use Rattle.recording.proofs.quick.quick_head.Statement.{statement}
 use Rattle.recording.proofs.quick.quick_head.Tie as tie

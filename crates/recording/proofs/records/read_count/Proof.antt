@@ -8,7 +8,7 @@ use lib.ListN.{length}
 use Rattle.recording.specs.Limits.{mostCount, countGroups}
 use Rattle.recording.specs.Record.{readData}
 use Rattle.recording.proofs.Entries.{found, fits-at}
-use Rattle.recording.proofs.Writing.{count-groups}
+use Rattle.recording.proofs.Ranges.{count-groups}
 use Rattle.recording.proofs.records.read_count.Statement.{statement}
 use Rattle.recording.proofs.records.read_count.Tie as tie
 

@@ -7,7 +7,7 @@ use lib.ListN.{length}
 use Rattle.recording.specs.Limits.{mostGap, gapGroups}
 use Rattle.recording.specs.Record.{readWord, readWithin}
 use Rattle.recording.proofs.Entries.{found, fits-at}
-use Rattle.recording.proofs.Writing.{gap-groups}
+use Rattle.recording.proofs.Ranges.{gap-groups}
 use Rattle.recording.proofs.records.read_edge.Statement.{statement}
 use Rattle.recording.proofs.records.read_edge.Tie as tie
 

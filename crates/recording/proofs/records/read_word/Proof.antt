@@ -6,7 +6,7 @@ use borrow.Author.Needs.{needs}
 use Rattle.recording.specs.Limits.{mostWord, wordGroups}
 use Rattle.recording.specs.Record.{readCount}
 use Rattle.recording.proofs.Entries.{found, fits-at}
-use Rattle.recording.proofs.Writing.{word-groups}
+use Rattle.recording.proofs.Ranges.{word-groups}
 use Rattle.recording.proofs.records.read_word.Statement.{statement}
 use Rattle.recording.proofs.records.read_word.Tie as tie
 

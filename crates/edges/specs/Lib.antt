@@ -1,0 +1,2 @@
+-- The starred edges.
+pub mod Edges

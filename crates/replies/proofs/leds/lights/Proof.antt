@@ -1,0 +1,30 @@
+-- `replies::leds::lights` meets its contract. Assumes nothing.
+use Rattle.laws.specs.Tab.{tab}
+use borrow.Author.Needs.{needs}
+use Rattle.replies.proofs.leds.lights.Statement.{statement}
+use Rattle.replies.proofs.leds.lights.Tie as tie
+
+returns : tie.Need-returns
+unfolding tab
+returns c = rw (c .before .before .before .before .before .before .before .byte-at .ensures, c .before .before .before .before .before .before .byte-at2 .ensures, c .before .before .before .before .before .byte-at3 .ensures, c .before .before .before .before .byte-at4 .ensures, c .before .before .before .byte-at5 .ensures, c .before .before .byte-at6 .ensures, c .before .byte-at7 .ensures, c .byte-at8 .ensures)
+
+pub lights-spec : {M : Type 1} → statement M
+lights-spec =
+    tie.close
+    (tie.spec
+    (λ c κs. search needs)
+    (λ c. search needs)
+    (λ c κs. search needs)
+    (λ c. search needs)
+    (λ c κs. search needs)
+    (λ c. search needs)
+    (λ c κs. search needs)
+    (λ c. search needs)
+    (λ c κs. search needs)
+    (λ c. search needs)
+    (λ c κs. search needs)
+    (λ c. search needs)
+    (λ c κs. search needs)
+    (λ c. search needs)
+    (λ c κs. search needs)
+    returns)

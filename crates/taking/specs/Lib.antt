@@ -1,0 +1,2 @@
+-- What a frame for a bench gives.
+pub mod Taking

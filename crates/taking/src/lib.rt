@@ -1,0 +1,5 @@
+// A frame taken by a bench: judged, its deed done, and its replies written.
+mod taking;
+
+pub use taking::Taken;
+pub use taking::bench_take;

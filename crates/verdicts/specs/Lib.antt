@@ -1,0 +1,2 @@
+-- What a bench makes of a frame.
+pub mod Verdicts
