@@ -3,7 +3,7 @@
 
 Each NAME.small.rec and NAME.large.rec are the beginning and the whole of one recording, so that what a record costs is told by how the
 cost grows; NAME.long.rec, for wall times, is the same at length. unheard, half and told.small.rec leave one module whose memory is known so far, for
-the plan of reads. The others are only compared: damaged-*.rec, and sweep.rec, which goes through commands, lengths, priorities and fields.
+its names and the plan of reads; bench-COMMAND.small.rec are for a bench, each of one command. The others are only compared: damaged-*.rec, and sweep.rec, which goes through commands, lengths, priorities and fields.
 
 usage: make_inputs.py FOLDER
 """
@@ -28,6 +28,7 @@ OF_ONE = {IR: (0xEB, 0xF4, 0xF5, 0xF6, 0xF7, 0xF8, 0xF9), BL: (0xEC, 0x04, 0x05,
 HIGH = (0x00, 0x04, 0x05, 0x06)
 LOCATED = (0xFE, 0xFD, 0xFC, 0xCC, 0xC9, 0xCA)
 NAMED = (0xF0, 0xF1, 0xF2, 0xEF)
+BENCH = (0xFD, 0xC9, 0xEF, 0xFA, 0xCB, 0xFC, 0xCA, 0xF4, 0xF6)  # commands to a bench
 
 
 def entry(address, kind):
@@ -120,6 +121,13 @@ def sweep(rng):
     return b"".join(out)
 
 
+def asked(rng, command):
+    """A bench is handed one command, with what may stand in it."""
+    last = {0xEF: [1 << rng.randrange(8)], 0xFA: [rng.randrange(256)], 0xC9: [0, rng.randrange(253)], 0xCA: [0] + [rng.randrange(253) for _ in range(5)]}
+    data = last.get(command, [0] + [rng.randrange(256) for _ in range(6)])
+    return record(MODULES[0][0], ([command] + data)[:LENGTHS[command]])
+
+
 def damaged(rng, recording):
     out = bytearray(recording)
     for _ in range(rng.randrange(1, 4)):
@@ -147,6 +155,8 @@ def main():
         (folder / f"random.{size}.rec").write_bytes(entries + b"".join(parts[i % LARGE] for i in range(n)))
     for name, starts in (("unheard", ()), ("half", range(0, 256, 8)), ("told", range(0, 256, 4))):
         (folder / f"{name}.small.rec").write_bytes(memory(starts))
+    for command in BENCH:
+        (folder / f"bench-{command:02X}.small.rec").write_bytes(b"".join(asked(rng, command) for _ in range(64)))
     (folder / "empty.rec").write_bytes(b"")
     (folder / "sweep.rec").write_bytes(sweep(rng))
     for i in range(200):

@@ -21,6 +21,9 @@ LISTINGS = [str(FOLDER.parent / "bin" / "listing"), str(FOLDER / "plain_listing"
 CALLS = [str(FOLDER / "calls"), str(FOLDER / "plain_calls")]
 NAMES = ("classroom", "dump", "random")
 MEMORIES = ("unheard", "half", "told")
+BENCHES = tuple(f"bench-{command}" for command in ("FD", "C9", "EF", "FA", "CB", "FC", "CA", "F4", "F6"))
+DEPTH = 64  # of the way back, where a row names none
+OTHER_DEPTHS = (0, 1, 16, 63)
 EMULATOR = ["qemu-x86_64"] + RUN[1:]
 TURNS = 3000  # calls of a comparison
 TIMES = 9  # runs of each side for a wall time
@@ -41,16 +44,19 @@ def compare_all():
     recordings = sorted(FOLDER.glob("*.rec"))
     for recording in recordings:
         compare(recording.name, [[program] for program in LISTINGS], recording)
-    calls = [(name, mode) for name in NAMES for mode in ("hear", "back", "cell", "row", "check")] + [("sweep", "check")]
-    calls += [(name, "plan") for name in NAMES + MEMORIES]
-    for name, mode in calls:
-        recording = recording_of(name, "large" if name in NAMES else "small") if name != "sweep" else FOLDER / "sweep.rec"
-        compare(f"{mode} {name}", [[program, mode, str(TURNS), str(recording)] for program in CALLS])
+    calls = [(name, mode, TURNS, DEPTH) for name in NAMES for mode in ("hear", "back", "cell", "name", "row", "plan", "check")]
+    calls += [("random", mode, TURNS, depth) for mode in ("back", "check") for depth in OTHER_DEPTHS]
+    calls += [(name, mode, TURNS, DEPTH) for name in MEMORIES for mode in ("name", "plan")]
+    calls += [(name, "lesson", TURNS, DEPTH) for name in BENCHES + NAMES]
+    calls += [("sweep", "check", TURNS, DEPTH), ("sweep", "lesson", records("sweep", None), DEPTH)]
+    for name, mode, turns, depth in calls:
+        recording = recording_of(name, None if name == "sweep" else "large" if name in NAMES else "small")
+        compare(f"{mode} {name}, depth {depth}", [[program, mode, str(turns), str(recording), str(depth)] for program in CALLS])
     print(f"{len(recordings)} listings and {len(calls)} rows of calls are the same on both sides\n")
 
 
 def recording_of(name, size):
-    return FOLDER / f"{name}.{size}.rec"
+    return FOLDER / (f"{name}.{size}.rec" if size else f"{name}.rec")
 
 
 @functools.lru_cache(maxsize=None)
@@ -83,28 +89,32 @@ def per_record(program, name):
 
 
 @functools.lru_cache(maxsize=None)
-def per_turn(program, mode, name):
+def per_turn(program, mode, name, depth):
     """One turn for each frame of the recording, against none."""
     turns = records(name, "small")
-    few, many = (instructions([program, mode, str(n), str(recording_of(name, "small"))]) for n in (0, turns))
+    few, many = (instructions([program, mode, str(n), str(recording_of(name, "small")), str(depth)]) for n in (0, turns))
     return (many - few) / turns
 
 
-def per_call(program, mode, name):
+def per_call(program, mode, name, depth=DEPTH):
     """A turn's cost without what the turn itself takes: the loop, and for a step back the hearing before it."""
-    return per_turn(program, mode, name) - per_turn(program, "hear" if mode == "back" else "none", name)
+    return per_turn(program, mode, name, depth) - per_turn(program, "hear" if mode == "back" else "none", name, depth)
 
 
 def row(title, ours, plain, digits):
-    print(f"{title:<34}{ours:>12.{digits}f}{plain:>12.{digits}f}{ours / plain:>9.2f}")
+    print(f"{title:<38}{ours:>12.{digits}f}{plain:>12.{digits}f}{ours / plain:>9.2f}")
 
 
 def print_instructions():
-    print(f"{'instructions':<34}{'ours':>12}{'plain C':>12}{'ratio':>9}")
+    print(f"{'instructions':<38}{'ours':>12}{'plain C':>12}{'ratio':>9}")
     for name in NAMES:
         row(f"listing, per record: {name}", *(per_record(program, name) for program in LISTINGS), 1)
-    for mode, name in [("hear", name) for name in NAMES] + [("back", "dump"), ("cell", "dump"), ("row", "dump")] + [("plan", name) for name in MEMORIES]:
-        row(f"library, per call: {mode} {name}", *(per_call(program, mode, name) for program in CALLS), 1)
+    rows = [("hear", name, DEPTH) for name in NAMES] + [(mode, "dump", DEPTH) for mode in ("back", "cell", "row")]
+    rows += [(mode, "dump", 16) for mode in ("hear", "back")]
+    rows += [(mode, name, DEPTH) for mode in ("name", "plan") for name in MEMORIES] + [("bench", name, DEPTH) for name in BENCHES]
+    for mode, name, depth in rows:
+        title = f"{mode} {name}" + (f", depth {depth}" if depth != DEPTH else "")
+        row(f"library, per call: {title}", *(per_call(program, mode, name, depth) for program in CALLS), 1)
 
 
 def seconds(program, recording):
@@ -115,7 +125,7 @@ def seconds(program, recording):
 
 def print_times():
     """Both sides in turn, so that a change of the machine's load falls on both; the median of each."""
-    print(f"\n{'nanoseconds per record':<34}{'ours':>12}{'plain C':>12}{'ratio':>9}")
+    print(f"\n{'nanoseconds per record':<38}{'ours':>12}{'plain C':>12}{'ratio':>9}")
     for name in NAMES:
         took = [[seconds(program, recording_of(name, "long")) for program in LISTINGS] for _ in range(TIMES)]
         n = records(name, "long")

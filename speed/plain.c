@@ -1,19 +1,9 @@
 #include "plain.h"
+#include "plain_bus.h"
 
 #include <string.h>
 
-_Static_assert(__BYTE_ORDER__ == __ORDER_LITTLE_ENDIAN__, "a memory row and the LEDs are laid out low byte first");
 _Static_assert(sizeof(struct plain_module) == 1024, "a slot is found by a shift");
-
-enum {
-    BAD_IDENTIFIER = 1, BAD_FORM, BAD_PRIORITY, BAD_TYPE, TYPE_NOT_KNOWN, NOT_LISTED, WRONG_LENGTH, WRONG_PRIORITY, BAD_FIELD,
-    NO_ROOM, NOTHING_KEPT, NO_SUCH_PLACE, TOO_SHORT, SID0_SET = 17,
-};
-
-static inline uint32_t refuse(unsigned number) { return (uint32_t)number << 16; }
-
-/* A field that is not allowed, with the number of its byte. */
-static inline uint32_t refuse_at(unsigned byte) { return refuse(BAD_FIELD) | (uint32_t)byte << 24; }
 
 /* ---- the tables ---- */
 
@@ -23,19 +13,11 @@ enum act {
     STATUS_ASKED, INPUT_STATUS, LEDS_ALL, LEDS, BLIND_STATUS, BLIND_MOVED,
 };
 
-enum { HIGH = 0, LOW = 3 };
-
 /* A command of a kind: the form of its frames, and the last memory location that may stand in them. */
 struct rule {
     _Alignas(4) uint8_t form; /* aligned so that a rule is found by a shift */
     uint8_t act, last;
 };
-
-/* A frame's length and priority in one number, so that one test serves both; 0 is the form of no frame. */
-#define FORM(length, priority) ((length) << 2 | (priority))
-
-#define H(length) FORM(length, HIGH)
-#define L(length) FORM(length, LOW)
 
 #define OF_EVERY(last_cell, last_start)                                                                                           \
     [0xFE] = {L(4), CELL_TOLD, last_cell}, [0xFD] = {L(3), LOCATION_ASKED, last_cell}, [0xFC] = {L(4), CELL_SET, last_cell},      \
@@ -88,10 +70,10 @@ static const uint8_t timeouts_of[PLAIN_KINDS] = {0, UINT8_MAX, 0x03, 0x0F};
 
 static inline struct plain_step *next_step(struct plain_picture *p)
 {
-    struct plain_step *s = &p->step[p->next];
-    p->next = (uint8_t)((p->next + 1) % PLAIN_DEPTH);
+    size_t next = p->next;
+    p->next = (uint8_t)((next + 1) % PLAIN_DEPTH);
     p->kept = (uint8_t)(p->kept + (p->kept < p->depth));
-    return s;
+    return &p->step[next];
 }
 
 static inline uint32_t step_over_nothing(struct plain_picture *p)
@@ -199,7 +181,7 @@ static inline uint32_t ask(struct plain_picture *p, uint16_t *places, size_t n)
 }
 
 /* The first character of a name; a VMB8IR's names live in its memory. */
-static inline uint16_t *name_at(struct plain_module *m, size_t name)
+static inline const uint16_t *name_at(const struct plain_module *m, size_t name)
 {
     return m->kind == PLAIN_VMB8IR ? &m->cell[PLAIN_NAME_SIZE * (name - 1)] : m->character[name - 1];
 }
@@ -209,7 +191,7 @@ static inline uint32_t tell_name(struct plain_picture *p, struct plain_module *m
     unsigned name = name_of[m->kind][data[1]];
     if (name == 0)
         return refuse_at(2);
-    return tell(p, name_at(m, name) + from, data + 2, n);
+    return tell(p, (uint16_t *)name_at(m, name) + from, data + 2, n);
 }
 
 static const uint64_t EACH_BYTE = 0x0101010101010101;
@@ -320,34 +302,34 @@ static inline uint32_t act_on(struct plain_picture *p, struct plain_module *m, c
     }
 }
 
-static uint32_t refuse_form(unsigned kind, const struct rule *rule, size_t count)
+/* What is no frame with data: a type request, or what is refused. */
+static APART uint32_t hear_request(struct plain_picture *p, uint32_t identifier, uint32_t remote, size_t count)
 {
-    if (kind == PLAIN_NO_MODULE)
-        return refuse(TYPE_NOT_KNOWN);
-    if (rule->form == 0)
-        return refuse(NOT_LISTED);
-    return refuse(rule->form >> 2 != count ? WRONG_LENGTH : WRONG_PRIORITY);
+    uint32_t refused = refuse_frame(identifier, remote, count);
+    if (refused)
+        return refused;
+    return priority_in(identifier) == LOW ? step_over_nothing(p) : refuse(WRONG_PRIORITY);
+}
+
+/* A frame with data that is not of its command's form: a type, or what is refused. */
+static APART uint32_t hear_other(struct plain_picture *p, uint32_t identifier, unsigned kind, const uint8_t *data, size_t count)
+{
+    unsigned priority = priority_in(identifier);
+    if (priority != HIGH && priority != LOW)
+        return refuse(BAD_PRIORITY);
+    if (data[0] == 0xFF)
+        return hear_type(p, address_in(identifier), priority, data, count);
+    return kind == PLAIN_NO_MODULE ? refuse(TYPE_NOT_KNOWN) : refuse_form(rules[kind][data[0]].form, count);
 }
 
 uint32_t plain_hear(struct plain_picture *p, uint32_t identifier, uint32_t remote, const uint8_t *restrict data, size_t count)
 {
-    if (identifier > 2047)
-        return refuse(BAD_IDENTIFIER);
-    if (identifier & 1)
-        return refuse(SID0_SET);
-    if (remote > 1 || count > 8 || remote == (count != 0))
-        return refuse(BAD_FORM);
-    unsigned priority = identifier >> 9, address = identifier >> 1 & 0xFF;
-    if (priority == 1 || priority == 2)
-        return refuse(BAD_PRIORITY);
-    if (remote)
-        return priority == LOW ? step_over_nothing(p) : refuse(WRONG_PRIORITY);
-    if (data[0] == 0xFF)
-        return hear_type(p, address, priority, data, count);
-    struct plain_module *m = &p->module[p->slot[address]];
+    if (!has_data(identifier, remote, count))
+        return hear_request(p, identifier, remote, count);
+    struct plain_module *m = &p->module[p->slot[address_in(identifier)]];
     const struct rule *rule = &rules[m->kind][data[0]];
-    if (rule->form != FORM(count, priority))
-        return refuse_form(m->kind, rule, count);
+    if (rule->form != FORM(count, priority_in(identifier)))
+        return hear_other(p, identifier, m->kind, data, count);
     return act_on(p, m, rule, data);
 }
 
@@ -380,6 +362,36 @@ uint32_t plain_memory_row(const struct plain_picture *p, uint32_t address, uint8
     return 0;
 }
 
+static inline unsigned heard_of(const uint16_t *character)
+{
+    unsigned heard = 0;
+    for (size_t i = 0; i < PLAIN_NAME_SIZE; i++)
+        heard += character[i] != PLAIN_UNKNOWN;
+    return heard;
+}
+
+uint32_t plain_name(const struct plain_picture *p, uint32_t address, uint32_t name, uint8_t *out, size_t out_len)
+{
+    const struct plain_module *m = module_at(p, address);
+    if (m->kind == PLAIN_NO_MODULE)
+        return refuse(TYPE_NOT_KNOWN);
+    if (name - 1 >= names_of[m->kind])
+        return refuse(NO_SUCH_PLACE);
+    if (out_len < PLAIN_NAME_SIZE * sizeof(uint16_t))
+        return refuse(TOO_SHORT);
+    const uint16_t *character = name_at(m, name);
+    memcpy(out, character, PLAIN_NAME_SIZE * sizeof *character);
+    return heard_of(character);
+}
+
+/* Whether four cells from one on are known, looked at in one word. What is read past the last cell is the module's too. */
+static inline int four_known(const struct plain_module *m, size_t cell)
+{
+    uint64_t four;
+    memcpy(&four, (const uint8_t *)m + offsetof(struct plain_module, cell) + cell * sizeof m->cell[0], sizeof four);
+    return (four & PLAIN_UNKNOWN * UINT64_C(0x0001000100010001)) == 0;
+}
+
 /* Every fourth cell at most starts a read, so that the starts are made in room of their own and copied where they fit. */
 uint32_t plain_plan(const struct plain_picture *p, uint32_t address, uint8_t *out, size_t out_len)
 {
@@ -390,7 +402,7 @@ uint32_t plain_plan(const struct plain_picture *p, uint32_t address, uint8_t *ou
     size_t cells = cells_of[m->kind], last = cells - PLAIN_BLOCK, count = 0;
     for (size_t cell = 0; cell < cells;) {
         if (m->cell[cell] != PLAIN_UNKNOWN) {
-            cell++;
+            cell += four_known(m, cell) ? PLAIN_BLOCK : 1;
             continue;
         }
         starts[count++] = (uint16_t)(cell < last ? cell : last);
@@ -410,16 +422,11 @@ unsigned plain_told_cells(const struct plain_module *m)
     return told;
 }
 
-unsigned plain_whole_names(struct plain_module *m)
+unsigned plain_whole_names(const struct plain_module *m)
 {
     unsigned whole = 0;
-    for (size_t n = 1; n <= names_of[m->kind]; n++) {
-        const uint16_t *character = name_at(m, n);
-        unsigned heard = 0;
-        for (size_t i = 0; i < PLAIN_NAME_SIZE; i++)
-            heard += character[i] != PLAIN_UNKNOWN;
-        whole += heard == PLAIN_NAME_SIZE;
-    }
+    for (size_t n = 1; n <= names_of[m->kind]; n++)
+        whole += heard_of(name_at(m, n)) == PLAIN_NAME_SIZE;
     return whole;
 }
 

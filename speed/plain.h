@@ -1,6 +1,6 @@
 /* The same library as include/velbus.h, as a good engineer would write it in C without proofs: what the proved one is measured against.
  *
- * The calls that a gateway makes most, and the plan of reads. Each answers the result word of velbus.h: the value, or the refusal with its byte. */
+ * The calls that a gateway makes most, a name, and the plan of reads. Each answers the result word of velbus.h: the value, or the refusal with its byte. */
 #ifndef PLAIN_H
 #define PLAIN_H
 
@@ -50,10 +50,11 @@ uint32_t plain_hear(struct plain_picture *p, uint32_t identifier, uint32_t remot
 uint32_t plain_step_back(struct plain_picture *p);
 uint32_t plain_cell(const struct plain_picture *p, uint32_t address, uint32_t location);
 uint32_t plain_memory_row(const struct plain_picture *p, uint32_t address, uint8_t *out, size_t out_len);
+uint32_t plain_name(const struct plain_picture *p, uint32_t address, uint32_t name, uint8_t *out, size_t out_len);
 uint32_t plain_plan(const struct plain_picture *p, uint32_t address, uint8_t *out, size_t out_len);
 
 /* For the listing: how many names are whole, and how many cells are told. */
-unsigned plain_whole_names(struct plain_module *m);
+unsigned plain_whole_names(const struct plain_module *m);
 unsigned plain_told_cells(const struct plain_module *m);
 unsigned plain_type(const struct plain_module *m);
 

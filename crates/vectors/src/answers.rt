@@ -1,5 +1,6 @@
 // Answers in words. Each begins with a space. An answer that outgrows its room is none, and agrees with nothing.
 use crate::text::item;
+use crate::text::part;
 use crate::text::past;
 use crate::words::TYPES;
 use laws::byte_at;
@@ -70,13 +71,9 @@ fn add_letter(w: Words, before: u8, b: u8, next: u8) -> Words {
     if !is_text(b) {
         return add_byte(w, b);
     }
-    let begun = if is_text(before) { w } else { add(w, b" \"") };
-    let added = add(begun, &[b]);
-    if is_text(next) {
-        added
-    } else {
-        add(added, b"\"")
-    }
+    let from = if is_text(before) { 2 } else { 0 };
+    let to = if is_text(next) { 3 } else { 4 };
+    add(w, part(&[b' ', b'"', b, b'"'], from, to))
 }
 
 pub(crate) fn say_text(text: &[u8]) -> Words {
@@ -164,6 +161,9 @@ pub(crate) fn value(letter: u8, v: u16) -> Words {
         b'L' => say_item(b"off/on/slow/fast/very fast/", v),
         b'I' => say_item(b"off/up/down/", v),
         b'A' => say_item(b"no/yes/", v),
+        b'Q' => say_item(b"wrong/right/", v),
+        b'n' => add(add_decimal(say(b""), v as u64), b" heard"),
+        b'q' => add(add_decimal(say(b""), v as u64), b" reads"),
         b'C' | b'R' => cell(v),
         _ => add_decimal(say(b""), v as u64),
     }

@@ -1,12 +1,10 @@
 // The plan of reads, and proposed plans.
 use crate::answers::Words;
-use crate::answers::add;
 use crate::answers::add_bytes;
-use crate::answers::add_decimal;
-use crate::answers::refused;
-use crate::answers::say;
+use crate::answers::answer;
 use crate::pictures::both;
 use crate::rows::NO_CALL;
+use crate::rows::and_more;
 use crate::rows::only;
 use crate::rows::refusal;
 use crate::text::part;
@@ -23,49 +21,33 @@ fn fill(picture: &[u8], at: u32, room: &mut [u8], n: usize) -> Answer {
     plan::plan_bytes(picture, AddressAsked(at), &mut room[0..n])
 }
 
-// How many reads there are, and the bytes of their starts; a buffer of dots that was changed elsewhere is told.
-fn shown(count: u16, room: &[u8; ROOM]) -> Words {
-    let filled = part(room, 0, 2 * count as usize);
-    let w = add_bytes(add(add_decimal(say(b""), count as u64), b" reads"), filled);
-    if only(room, 0, filled) {
-        return w;
+// How many reads there are, as a count of bytes.
+fn filled(a: Answer) -> usize {
+    match a {
+        Answer::Value(count) => 2 * count as usize,
+        _ => 0,
     }
-    add(w, b" and more")
 }
 
-// A refusal leaves the buffer as it was.
-fn kept(number: u16, room: &[u8; ROOM]) -> Words {
-    let w = refused(number);
-    if only(room, 0, b"") {
-        return w;
-    }
-    add(w, b" and more")
+// How many reads there are, and the bytes of their starts; a buffer of dots that was changed elsewhere is told. A refusal leaves it as it was.
+fn shown(a: Answer, room: &[u8; ROOM]) -> Words {
+    let starts = part(room, 0, filled(a));
+    let w = add_bytes(answer(b'q', a), starts);
+    and_more(w, only(room, 0, starts))
 }
 
 pub(crate) fn plan(r: Reader, picture: &[u8]) -> Words {
     let mut room = [b'.'; ROOM];
-    match fill(picture, r.a, &mut room, r.b as usize) {
-        Answer::Value(count) => shown(count, &room),
-        Answer::NotHeard => say(b" not heard"),
-        Answer::Refused(n) => kept(n, &room),
-    }
+    let a = fill(picture, r.a, &mut room, r.b as usize);
+    shown(a, &room)
 }
 
 // What is said of a proposed plan.
-fn judged(answer: u16) -> Words {
-    match answer {
-        0 => say(b" wrong"),
-        1 => say(b" right"),
-        _ => say(b" neither"),
-    }
-}
-
 pub(crate) fn right(r: Reader, starts: &[u8], picture: &[u8]) -> Words {
-    match plan::right_plan_bytes(picture, AddressAsked(r.a), starts) {
-        Answer::Value(answer) => judged(answer),
-        Answer::NotHeard => say(b" not heard"),
-        Answer::Refused(n) => refused(n),
-    }
+    answer(
+        b'Q',
+        plan::right_plan_bytes(picture, AddressAsked(r.a), starts),
+    )
 }
 
 // The one refusal of both, on a picture that is too short.

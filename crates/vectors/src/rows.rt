@@ -3,7 +3,7 @@ use crate::answers::Words;
 use crate::answers::add;
 use crate::answers::add_bytes;
 use crate::answers::add_characters;
-use crate::answers::add_decimal;
+use crate::answers::answer;
 use crate::answers::refused;
 use crate::answers::say;
 use crate::answers::say_text;
@@ -66,11 +66,7 @@ pub(crate) fn room_of(
     to: usize,
 ) -> Words {
     let filled = part(room, from, to);
-    let w = shown(letter, refusal, filled);
-    if only(room, from, filled) {
-        return w;
-    }
-    add(w, b" and more")
+    and_more(shown(letter, refusal, filled), only(room, from, filled))
 }
 
 // Whether the entries of a row from `from` on are as they were.
@@ -92,28 +88,24 @@ fn fill_name(picture: &[u8], r: Reader, row: &mut [u16], n: usize) -> Answer {
     questions::name(picture, AddressAsked(r.a), r.b, &mut row[0..n])
 }
 
-// How many characters are heard, and the characters; or the refusal.
-fn named(a: Answer, characters: &[u16]) -> Words {
-    match a {
-        Answer::Value(count) => add_characters(
-            add(add_decimal(say(b""), count as u64), b" heard"),
-            characters,
-        ),
-        Answer::NotHeard => say(b" not heard"),
-        Answer::Refused(n) => refused(n),
+// What a call says of a buffer, and whether it left the rest of it as it was.
+pub(crate) fn and_more(w: Words, kept: bool) -> Words {
+    if kept {
+        return w;
     }
+    add(w, b" and more")
 }
 
+// How many characters are heard, and the characters; or the refusal.
 pub(crate) fn name(r: Reader, picture: &[u8]) -> Words {
     let n = if r.found == 2 { NAME_ROOM } else { r.c };
     let mut row = [UNTOUCHED; ENTRIES];
     let a = fill_name(picture, r, &mut row, n as usize);
-    let filled = if refusal(a) == 0 { NAME } else { 0 };
-    let w = named(a, &row[0..NAME]);
-    if untouched_from(&row, filled) {
-        return w;
+    let w = answer(b'n', a);
+    if refusal(a) != 0 {
+        return and_more(w, untouched_from(&row, 0));
     }
-    add(w, b" and more")
+    and_more(add_characters(w, &row[0..NAME]), untouched_from(&row, NAME))
 }
 
 // An entry of a row after the call.
