@@ -11,7 +11,7 @@ use Rattle.laws.specs.Tab.{tab}
 use Rattle.codec.specs.Writing.{writing}
 use Rattle.codec.specs.declared.writer.Writing.{Writing}
 use Rattle.codec.specs.declared.writer.Writing.the-variants.{Written, Refused}
-use Rattle.types.specs.Types.{vmb8ir}
+use Rattle.kinds.specs.Types.{vmb8ir}
 use Rattle.frame.specs.declared.messages.Command.{Command}
 use Rattle.places.specs.Runs.{silent, tells, ledIf, someLeds}
 use mathlib.Core.Bool.{cond}

@@ -6,7 +6,7 @@ use lib.Dec.{eqb, leb, ltb}
 use lib.ListN.{length, set, take, replicate}
 use lib.Seq.{sets}
 use Rattle.laws.specs.Refusals.{typeNotKnown, badField, codeAt, tooShort}
-use Rattle.types.specs.Types.{vmb8ir}
+use Rattle.kinds.specs.Types.{vmb8ir}
 use Rattle.places.specs.Places.{yearPlace, weekPlace, cellPlace}
 use Rattle.shape.specs.Limits.{addresses}
 use Rattle.shape.specs.Result.{Result}

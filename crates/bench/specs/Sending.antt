@@ -2,7 +2,7 @@
 use Prim.Native.Nat.{ℕ}
 use mathlib.Core.List.{List, [], _∷_, _++_}
 use lib.ListN.{replicate}
-use Rattle.types.specs.Types.{vmb8ir}
+use Rattle.kinds.specs.Types.{vmb8ir}
 use Rattle.frame.specs.declared.messages.Command.{Command}
 use Rattle.frame.specs.declared.messages.Message.the-variants.{Tells}
 use Rattle.codec.specs.Writing.{writing, frameSize, frameBytes}

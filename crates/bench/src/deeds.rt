@@ -11,7 +11,7 @@ use places::glow_number;
 use replies::KIND;
 ghost use mathlib.Core.Path.{_≡_};
 ghost use mathlib.Core.List.{[], _∷_};
-ghost use Rattle.types.specs.Types.{vmb8ir};
+ghost use Rattle.kinds.specs.Types.{vmb8ir};
 ghost use Rattle.places.specs.Places.{cellPlace};
 ghost use Rattle.places.specs.Runs.{telling, glowNumber, someLeds};
 ghost use Rattle.bench.specs.Deeds.{deed, done, doneBy};

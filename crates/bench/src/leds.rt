@@ -1,6 +1,6 @@
 // The eight LEDs, set by a command.
 use crate::bytes::put_bytes;
-use picture::leds_by;
+use changes::leds_by;
 use places::LEDS;
 use shape::put_at;
 ghost use mathlib.Core.Path.{_≡_};

@@ -9,7 +9,7 @@ use lib.Dec.{eqb, leb}
 use borrow.Author.Tests.{eqb-true, leb-true}
 use Rattle.laws.specs.Tests.{among}
 use Rattle.laws.proofs.Testing.{and-both, unrefused-is}
-use Rattle.types.specs.Types.{lineOf, blindsOf, channelsOf, rowsOf, rowFor, isListed, positionIn, blindOf}
+use Rattle.kinds.specs.Types.{lineOf, blindsOf, channelsOf, rowsOf, rowFor, isListed, positionIn, blindOf}
 use Rattle.frame.specs.Bytes.{byte, dataOf}
 use Rattle.frame.specs.Messages.{typeCommand, decode}
 use Rattle.fields.specs.Fields.{buttonsAllowed, askedAllowed}
@@ -17,8 +17,8 @@ use Rattle.judging.specs.Reading.{commandRefusal, commandRead, requestRead}
 use Rattle.codec.specs.Statements.{EveryRow, EveryRequest}
 use Rattle.frame.specs.declared.messages.Message.the-variants.{Tells}
 use Rattle.frame.specs.declared.messages.Reading.the-variants.{Read, Refused}
-use Rattle.types.specs.declared.types.Row.{Row}
-use Rattle.types.proofs.Listed.{of-listed, listed-module, module-handed, row-known, row-priority}
+use Rattle.kinds.specs.declared.types.Row.{Row}
+use Rattle.kinds.proofs.Listed.{of-listed, listed-module, module-handed, row-known, row-priority}
 use Rattle.codec.proofs.Shapes.{padded}
 use Rattle.judging.proofs.Judged.{reads-made, request-made}
 

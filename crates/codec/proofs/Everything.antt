@@ -13,7 +13,7 @@ use Rattle.laws.specs.Refusals.{badField, codeAt}
 use Rattle.laws.specs.Tests.{unlessRefused}
 use Rattle.laws.proofs.Testing.{_&_, AllOf, not-both, nonzero, among-each}
 use Rattle.frame.specs.Identifiers.{identifierOf}
-use Rattle.types.specs.Types.{longType, shortType, rowFor, isListed}
+use Rattle.kinds.specs.Types.{longType, shortType, rowFor, isListed}
 use Rattle.frame.specs.Bytes.{byte, dataOf}
 use Rattle.frame.specs.Messages.{permanent, timeOf, typeCommand, decode}
 use Rattle.fields.specs.Fields.{fault, fieldRefusal}
@@ -25,7 +25,7 @@ use Rattle.frame.specs.declared.messages.Command.{Command}
 use Rattle.frame.specs.declared.messages.Command.the-variants.{TypeLong, TypeShort}
 use Rattle.frame.specs.declared.messages.Message.the-variants.{Tells}
 use Rattle.frame.specs.declared.messages.Reading.the-variants.{Read, Refused}
-use Rattle.types.proofs.Listed.{listed-module, module-handed, row-size, row-known, row-priority}
+use Rattle.kinds.proofs.Listed.{listed-module, module-handed, row-size, row-known, row-priority}
 use Rattle.frame.proofs.Commands.{type-shaped, readCommands, listed-read}
 use Rattle.judging.proofs.Numbers.{behind}
 use Rattle.judging.proofs.Judged.{reads-made, command-by-row}

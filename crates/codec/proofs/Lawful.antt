@@ -8,13 +8,13 @@ use lib.Dec.{eqb, lit<}
 use borrow.Author.Tests.{eqb-true}
 use Rattle.laws.specs.Refusals.{badType, typeNotKnown, notListed, badField, codeAt}
 use Rattle.laws.proofs.Testing.{held}
-use Rattle.types.specs.Types.{noType, rowFor, isListed}
+use Rattle.kinds.specs.Types.{noType, rowFor, isListed}
 use Rattle.frame.specs.Messages.{typeCommand}
 use Rattle.fields.specs.Fields.{fault}
 use Rattle.judging.specs.Reading.{ownType}
 use Rattle.frame.specs.declared.bytes.Data.{Data}
 use Rattle.frame.specs.declared.messages.Command.{Command}
-use Rattle.types.proofs.Listed.{listed-module, module-some}
+use Rattle.kinds.proofs.Listed.{listed-module, module-some}
 use Rattle.judging.proofs.Judged.{Listed}
 use Rattle.codec.specs.Writing.{typeFits, writeRefusal}
 

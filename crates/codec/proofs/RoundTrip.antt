@@ -11,7 +11,7 @@ use borrow.Author.Tests.{eqb-true, eq-eqb}
 use Rattle.laws.specs.Tests.{among, unlessRefused}
 use Rattle.laws.specs.Refusals.{badType, wrongPriority}
 use Rattle.laws.proofs.Testing.{nonzero, held, holds, unrefused, unrefused-is}
-use Rattle.types.specs.Types.{low, handedTypes, rowFor}
+use Rattle.kinds.specs.Types.{low, handedTypes, rowFor}
 use Rattle.frame.specs.Identifiers.{priorityOf, addressOf, identifierOf}
 use Rattle.frame.specs.Bytes.{byte, dataOf, dataBytes}
 use Rattle.frame.specs.Messages.{typeCommand, decode}
@@ -31,7 +31,7 @@ use Rattle.frame.specs.declared.messages.Reading.the-variants as r
 use Rattle.codec.specs.declared.writer.Frame.{Frame}
 use Rattle.codec.specs.declared.writer.Writing.{Writing}
 use Rattle.codec.specs.declared.writer.Writing.the-variants as w
-use Rattle.types.proofs.Listed.{row-size, row-known, row-priority}
+use Rattle.kinds.proofs.Listed.{row-size, row-known, row-priority}
 use Rattle.codec.proofs.Shapes.{data-again, padded, back, forth, row-length}
 use Rattle.codec.proofs.Accepted.{every-request}
 use Rattle.judging.proofs.Judged.{Framed, frame-held, whole, formed-remote, formed-data, reads-made, Listed, command-held, command-holds}

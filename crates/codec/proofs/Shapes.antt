@@ -11,7 +11,7 @@ use lib.Dec.{eqb, leb, lit<}
 use borrow.Author.Tests.{eqb-true, leb-true, ne-eqb}
 use Rattle.laws.proofs.Testing.{_&_, AllOf, not-both, and-both, or-right, among-each, held}
 use Rattle.frame.specs.Bytes.{byte, dataOf, bytesOf, dataBytes}
-use Rattle.types.specs.Types.{longType, shortType, rowFor, isListed, lastCell, lastStart}
+use Rattle.kinds.specs.Types.{longType, shortType, rowFor, isListed, lastCell, lastStart}
 use Rattle.frame.specs.Messages.{locationOf, timeOf, permanent, typeCommand, decode}
 use Rattle.codec.specs.Encoding.{highOf, lowOf, secondsOf, timedBytes, encode}
 use Rattle.fields.specs.Fields.{isBlind, locationFault, cellFault, blockFault, timeAllowed, timedFault, fault}
@@ -24,7 +24,7 @@ use Rattle.frame.specs.declared.messages.Time.the-variants.{DipSwitch, Permanen
 use Rattle.frame.specs.declared.messages.Glow.the-variants.{Off, On, Slow, Fast, VeryFast}
 use Rattle.frame.specs.declared.messages.Command.{Command}
 use Rattle.frame.specs.declared.messages.Command.the-variants.{TypeLong, TypeShort, Buttons, CellTold, BlockTold, CellAsked, BlockAsked, DumpAsked, CellSet, BlockSet, Errors, ErrorsAsked, NameOne, NameTwo, NameThree, NameAsked, StatusAsked, InputStatus, LedsAll, Leds, BlindStatus, BlindStop, BlindUp, BlindDown}
-use Rattle.types.proofs.Listed.{of-listed, cells-few}
+use Rattle.kinds.proofs.Listed.{of-listed, cells-few}
 use Rattle.frame.proofs.Commands.{type-shaped, readCommands, listed-read}
 use Rattle.judging.proofs.Numbers.{behind}
 

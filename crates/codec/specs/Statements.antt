@@ -7,7 +7,7 @@ use lib.ListN.{length}
 use Rattle.laws.specs.Limits.{AllBytes}
 use Rattle.laws.specs.Refusals.{badField, codeAt}
 use Rattle.laws.specs.Tests.{among}
-use Rattle.types.specs.Types.{low, handedTypes, rowFor, isListed}
+use Rattle.kinds.specs.Types.{low, handedTypes, rowFor, isListed}
 use Rattle.frame.specs.Identifiers.{identifierOf}
 use Rattle.frame.specs.Bytes.{byte, dataBytes}
 use Rattle.frame.specs.Messages.{typeCommand}

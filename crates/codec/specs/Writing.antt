@@ -6,7 +6,7 @@ use lib.Dec.{eqb}
 use Rattle.laws.specs.Refusals.{badType, typeNotKnown, notListed}
 use Rattle.laws.specs.Tests.{among, unless, unlessRefused}
 use Rattle.laws.specs.Answers.{Numbers, value, refusal}
-use Rattle.types.specs.Types.{low, noType, handedTypes, rowFor, isListed}
+use Rattle.kinds.specs.Types.{low, noType, handedTypes, rowFor, isListed}
 use Rattle.frame.specs.Identifiers.{identifierOf}
 use Rattle.frame.specs.Bytes.{dataOf, bytesOf}
 use Rattle.frame.specs.Messages.{typeCommand}

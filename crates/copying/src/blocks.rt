@@ -86,3 +86,29 @@ pub fn copy_front(out: &mut [u8], bytes: &[u8])
     let done = move_blocks(bytes, out);
     copy_in(out, done, &bytes[done..]);
 }
+
+const PIECE: usize = 16;
+
+// The whole pieces of sixteen bytes, and how many bytes these are.
+fn move_pieces(bytes: &[u8], out: &mut [u8]) -> usize
+    requires { ⌜ length (now bytes) ≤ length (now out) ⌝ }
+    ensures { λ r. ⌜ (r ≤ length (now (bytes .entry))) × (now (out .exit) ≡ sets (now (out .entry)) 0 (take r (now (bytes .entry)))) ⌝ }
+{
+    let mut i: usize = 0;
+    while PIECE <= bytes.len() - i {
+        move_sixteen(bytes, i, out, i);
+        i += PIECE;
+    }
+    i
+}
+
+// The same copy of bytes that are too few for a block, such as a name's.
+pub fn copy_few(out: &mut [u8], bytes: &[u8])
+    ensures { λ _. ⌜ now (out .exit) ≡ copiedIn (now (out .entry)) 0 (now (bytes .entry)) ⌝ }
+{
+    if out.len() < bytes.len() {
+        return;
+    }
+    let done = move_pieces(bytes, out);
+    copy_in(out, done, &bytes[done..]);
+}

@@ -10,7 +10,7 @@ use borrow.Author.Tests.{eqb-true, eq-eqb, ne-eqb, le-leb}
 use Rattle.laws.specs.Refusals.{badIdentifier, sid0Set, badForm, badPriority, badType, typeNotKnown, notListed, wrongLength, wrongPriority, badField, codeAt, tooShort}
 use Rattle.laws.specs.Tests.{among, unless, unlessRefused}
 use Rattle.laws.proofs.Testing.{not-both}
-use Rattle.types.specs.Types.{low, priorities, vmb8ir, noType, moduleTypes, isListed, rowFor}
+use Rattle.kinds.specs.Types.{low, priorities, vmb8ir, noType, moduleTypes, isListed, rowFor}
 use Rattle.frame.specs.Identifiers.{priorityOf, addressOf, elevenBits, sid0Clear, wellFormed}
 use Rattle.frame.specs.Bytes.{byte, dataOf}
 use Rattle.frame.specs.Messages.{typeCommand}

@@ -12,7 +12,7 @@ use Rattle.laws.specs.Refusals.{badType, notListed, tooShort, badNumber, codeAt
 use Rattle.laws.specs.Tests.{among, unless}
 use Rattle.laws.specs.Answers as numbers
 use Rattle.laws.specs.Copies.{copiedIn}
-use Rattle.types.specs.Types.{handedTypes}
+use Rattle.kinds.specs.Types.{handedTypes}
 use Rattle.judging.specs.Reading.{reading}
 use Rattle.codec.specs.Writing.{writing, frameSize, frameBytes}
 use Rattle.frame.specs.declared.messages.Reading.{Reading}

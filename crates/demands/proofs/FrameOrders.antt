@@ -14,7 +14,7 @@ use Rattle.laws.specs.Refusals.{badType, typeNotKnown, notListed, wrongLength, 
 use Rattle.laws.specs.Tests.{among, unless, unlessRefused}
 use Rattle.laws.proofs.Keys.{for-each}
 use Rattle.frame.specs.Identifiers.{priorityOf, addressOf}
-use Rattle.types.specs.Types.{noType, moduleTypes, handedTypes, rowsOf, rowFor, isListed}
+use Rattle.kinds.specs.Types.{noType, moduleTypes, handedTypes, rowsOf, rowFor, isListed}
 use Rattle.frame.specs.Bytes.{byte, dataOf}
 use Rattle.frame.specs.Messages.{typeCommand}
 use Rattle.codec.specs.Encoding.{encode}
@@ -29,7 +29,7 @@ use Rattle.frame.specs.declared.messages.Reading.{Reading}
 use Rattle.frame.specs.declared.messages.Reading.the-variants as reader
 use Rattle.codec.specs.declared.writer.Writing.{Writing}
 use Rattle.codec.specs.declared.writer.Writing.the-variants as writer
-use Rattle.types.proofs.Listed.{listed-module, module-some}
+use Rattle.kinds.proofs.Listed.{listed-module, module-some}
 use Rattle.places.specs.Runs.{commandOf}
 use Rattle.demands.specs.Order.{Test, _or_, Verdict, answers, refuses, verdict, formTests, requestTests, rowTests, typeTests, otherTests, dataTests, frameOrder, readerOrder, typeWritten, otherWritten, writerOrder}
 use Rattle.demands.specs.Demand1.{ofReading, ofWriting}

@@ -6,7 +6,7 @@ use mathlib.Core.Bool.{Bool, true, false, _||_, cond}
 use lib.Dec.{eqb, ltb}
 use borrow.Author.Tests.{eqb-true, eqb-false}
 use Rattle.laws.specs.Refusals.{noRoom, nothingKept, noSuchPlace, tooShort}
-use Rattle.types.specs.Types.{longType, rowFor}
+use Rattle.kinds.specs.Types.{longType, rowFor}
 use Rattle.frame.specs.Bytes.{byte}
 use Rattle.frame.specs.Messages.{typeCommand}
 use Rattle.judging.specs.Reading.{reading}
@@ -18,8 +18,10 @@ use Rattle.shape.specs.Limits.{room, mostDepth, busAddress}
 use Rattle.places.specs.Runs.{Run, meaningOf, meant, readAs, commandOf}
 use Rattle.shape.specs.Result.{Result, refusing, done}
 use Rattle.shape.specs.Head.{short, modulesOf, keptOf, kindIn}
-use Rattle.picture.specs.Hearing.{naming, exchangedBytes, enteredBytes, entering, hearingAs, hearingAt, hearing}
-use Rattle.picture.specs.Stepping.{steppingBack}
+use Rattle.changes.specs.Telling.{naming}
+use Rattle.changes.specs.Records.{exchangedBytes, enteredBytes}
+use Rattle.picture.specs.Hearing.{entering, hearingAs, hearingAt, hearing}
+use Rattle.changes.specs.Stepping.{steppingBack}
 use Rattle.steering.specs.Fresh.{freshBytes, fresheningWith, freshening}
 use Rattle.picture.proofs.Meant.{not-type, names-run, type-by}
 use Rattle.history.specs.Standing.{Event, hear}

@@ -12,7 +12,7 @@ use lib.ListN.{length, getD, take}
 use borrow.Author.Tests.{lt-ltb, ltb-true, ltb-false}
 use Rattle.laws.specs.Limits.{AllBytes}
 use Rattle.laws.specs.Refusals.{typeNotKnown, tooShort}
-use Rattle.types.specs.Types.{cellsOf, extentOf}
+use Rattle.kinds.specs.Types.{cellsOf, extentOf}
 use Rattle.frame.specs.declared.messages.Command.{Command}
 use Rattle.frame.specs.declared.messages.Command.the-variants.{BlockTold}
 use Rattle.frame.specs.declared.messages.Message.the-variants.{Tells}

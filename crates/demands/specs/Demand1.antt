@@ -20,7 +20,7 @@ use Rattle.shape.specs.declared.answers.Answer.the-variants as answer
 use Rattle.shape.specs.Answers.{outcomeNumbers, answerNumbers}
 use Rattle.shape.specs.Result.{Result}
 use Rattle.picture.specs.Hearing.{hearing}
-use Rattle.picture.specs.Stepping.{steppingBack}
+use Rattle.changes.specs.Stepping.{steppingBack}
 use Rattle.steering.specs.Fresh.{fresheningWith, freshening}
 use Rattle.questions.specs.Question.{Question, Reply}
 use Rattle.questions.specs.Replies.{slotAsked, keptAnswer, listing, reply}

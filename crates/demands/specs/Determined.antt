@@ -8,7 +8,7 @@ use Rattle.laws.specs.Promises.{OneAnswer, OneResult, OneOutcome, NoChoice}
 use Rattle.judging.specs.Reading.{reading}
 use Rattle.shape.specs.Result.{Result}
 use Rattle.picture.specs.Hearing.{hearing}
-use Rattle.picture.specs.Stepping.{steppingBack}
+use Rattle.changes.specs.Stepping.{steppingBack}
 use Rattle.steering.specs.Fresh.{fresheningWith, freshening}
 use Rattle.questions.specs.Question.{Question, Reply}
 use Rattle.questions.specs.Replies.{listing, reply}

@@ -6,7 +6,7 @@ use lib.Dec.{eqb, ltb, leb}
 use lib.ListN.{length}
 use Rattle.laws.specs.Refusals.{badIdentifier, sid0Set, badForm, badPriority, badType, typeNotKnown, notListed, wrongLength, wrongPriority, badField, codeAt, noRoom, nothingKept, noSuchPlace, tooShort, badNumber}
 use Rattle.laws.specs.Tests.{among}
-use Rattle.types.specs.Types.{low, priorities, noType, vmb8ir, moduleTypes, handedTypes, rowFor, isListed, extentOf}
+use Rattle.kinds.specs.Types.{low, priorities, noType, vmb8ir, moduleTypes, handedTypes, rowFor, isListed, extentOf}
 use Rattle.frame.specs.Identifiers.{priorityOf, elevenBits, sid0Clear, wellFormed}
 use Rattle.frame.specs.Bytes.{byte}
 use Rattle.frame.specs.Messages.{typeCommand}

@@ -6,7 +6,7 @@ use mathlib.Core.Path.{_≡_}
 use mathlib.Core.List.{List, [], _∷_, map}
 use lib.ListN.{length, take}
 use Rattle.laws.specs.Limits.{AllBytes}
-use Rattle.types.specs.Types.{cellsOf}
+use Rattle.kinds.specs.Types.{cellsOf}
 use Rattle.frame.specs.declared.messages.Command.the-variants.{BlockTold}
 use Rattle.shape.specs.declared.answers.Answer.the-variants.{Value}
 use Rattle.shape.specs.declared.answers.Outcome.the-variants.{Done}

@@ -2,7 +2,7 @@
 use mathlib.Core.Path.{refl}
 use mathlib.Core.List.{reverse}
 use Rattle.laws.specs.Tab.{tab}
-use Rattle.types.specs.Types.{lineOf, rowsOf, extentOf, positionIn, nameOf, blindOf}
+use Rattle.kinds.specs.Types.{lineOf, rowsOf, extentOf, positionIn, nameOf, blindOf}
 use Rattle.fields.specs.Fields.{buttonsAllowed, askedAllowed}
 use Rattle.judging.specs.Reading.{reading, commandRead, requestRead}
 use Rattle.places.specs.Places.{firstCharacter, cellAsked, ledAsked, blindAsked, hasName}

@@ -25,8 +25,8 @@ use Rattle.questions.specs.Replies.{reply}
 use Rattle.history.specs.Standing.{Event, back, deepest, outcomeOf, answered}
 use Rattle.history.specs.Demand3.{runBytes}
 use Rattle.history.specs.Cases.{example, ir, bl, bl2, status, toldTo, low as heard, high as urged}
-use Rattle.groups.specs.declared.reads.Found.{Found}
-use Rattle.groups.specs.declared.reads.Found.the-variants as numbers
+use Rattle.groups.specs.declared.scan.Found.{Found}
+use Rattle.groups.specs.declared.scan.Found.the-variants as numbers
 use Rattle.groups.specs.Number.{bytesOf, numberAt}
 use Rattle.recording.specs.declared.records.Entry.{Entry}
 use Rattle.recording.specs.declared.records.Entry.the-variants.{Broken}

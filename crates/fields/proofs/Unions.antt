@@ -14,10 +14,10 @@ use borrow.Author.Tests.{ne-eqb}
 use Rattle.laws.specs.Tests.{among}
 use Rattle.laws.proofs.Keys.{every, for-each, allBelow, below}
 use Rattle.laws.proofs.Testing.{not-both, or-right, same, same-is}
-use Rattle.types.specs.Bits.{bits}
-use Rattle.types.specs.Types.{Line, channelsOf, blindsOf}
+use Rattle.kinds.specs.Bits.{bits}
+use Rattle.kinds.specs.Types.{Line, channelsOf, blindsOf}
 use Rattle.fields.specs.Fields.{channelAllowed, clearBits, unions, askedAllowed}
-use Rattle.types.proofs.Listed.{of-line}
+use Rattle.kinds.proofs.Listed.{of-line}
 
 -- two bits that are both set or both clear
 abbrev pub alike : ℕ → Bool

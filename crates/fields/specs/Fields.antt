@@ -7,8 +7,8 @@ use lib.Dec.{eqb, leb, ltb}
 use lib.ListN.{length}
 use Rattle.laws.specs.Refusals.{badField, codeAt}
 use Rattle.laws.specs.Tests.{among, unless}
-use Rattle.types.specs.Bits.{bits, oneBit}
-use Rattle.types.specs.Types.{channelsOf, blindsOf, lastCell, lastStart, blindOf, upBit}
+use Rattle.kinds.specs.Bits.{bits, oneBit}
+use Rattle.kinds.specs.Types.{channelsOf, blindsOf, lastCell, lastStart, blindOf, upBit}
 use Rattle.frame.specs.declared.messages.Location.{Location}
 use Rattle.frame.specs.declared.messages.Time.{Time}
 use Rattle.frame.specs.declared.messages.Time.the-variants.{DipSwitch, Permanently, Seconds}

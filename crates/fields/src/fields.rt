@@ -2,26 +2,25 @@
 // choice of the later bytes can repair, and 0 where every field is allowed; reader and writer both go by it.
 use frame::Location;
 use frame::Time;
+use kinds::VMB1BL;
+use kinds::VMB2BL;
+use kinds::VMB8IR;
+use kinds::extent_of;
+use kinds::last_cell;
+use kinds::last_start;
+use kinds::name_of;
+use kinds::one_bit;
+use kinds::up_bit;
 use laws::BAD_FIELD;
 use laws::both;
 use laws::either;
 use laws::unless;
 use laws::wide32;
-use types::VMB1BL;
-use types::VMB2BL;
-use types::VMB8IR;
-use types::blind_of;
-use types::extent_of;
-use types::last_cell;
-use types::last_start;
-use types::name_of;
-use types::one_bit;
-use types::up_bit;
 ghost use mathlib.Core.Path.{_≡_};
 ghost use mathlib.Core.Bool.{_||_};
 ghost use lib.Dec.{eqb};
 ghost use Rattle.laws.specs.Tests.{among};
-ghost use Rattle.types.specs.Types.{blindOf};
+ghost use Rattle.kinds.specs.Types.{blindOf};
 ghost use Rattle.fields.specs.Fields.{ofBlinds, isBlind, channelAllowed, buttonsAllowed, askedAllowed, timeAllowed, timeoutsAllowed, blindStates, locationFault, cellFault, blockFault, buttonsFault, channelFault, lastPartFault, nameAskedFault, statusAskedFault, blindStatusFault, stopFault, typeShortFault, timedFault, fieldRefusal};
 
 // A field that is not allowed, with the number of its byte: made here and not of the byte, for a frame is judged at every turn.
@@ -46,8 +45,12 @@ fn of_blinds(kind: u32, test: bool) -> bool
 fn is_blind(kind: u32, channel: u8) -> bool
     ensures { λ r. ⌜ r ≡ isBlind kind channel ⌝ }
 {
-    let e = extent_of(kind);
-    wide32(blind_of(kind, channel)) <= e.blinds
+    match kind {
+        VMB1BL => channel == 0x03,
+        VMB8IR => false,
+        VMB2BL => either(channel == 0x03, channel == 0x0C),
+        _ => false,
+    }
 }
 
 pub fn channel_allowed(kind: u32, x: u8) -> bool
@@ -102,11 +105,10 @@ fn location_fault(last: u32, l: Location) -> u16
     ensures { λ r. ⌜ r ≡ fieldRefusal (locationFault last l) ⌝ }
 {
     let n = l.0 as u32;
-    unless(
-        n / 256 <= last / 256,
-        AT_BYTE_2,
-        unless(n <= last, AT_BYTE_3, 0),
-    )
+    if n <= last {
+        return 0;
+    }
+    unless(n / 256 <= last / 256, AT_BYTE_2, AT_BYTE_3)
 }
 
 pub fn cell_fault(kind: u32, l: Location) -> u16
@@ -121,12 +123,23 @@ pub fn block_fault(kind: u32, l: Location) -> u16
     location_fault(last_start(kind), l)
 }
 
-pub fn buttons_fault(kind: u32, a: u8, b: u8, c: u8) -> u16
+// Of a type that does not have all eight buttons.
+fn some_buttons_fault(kind: u32, a: u8, b: u8, c: u8) -> u16
     ensures { λ r. ⌜ r ≡ fieldRefusal (buttonsFault kind a b c) ⌝ }
 {
     let fourth = unless(buttons_allowed(kind, c), AT_BYTE_4, 0);
     let third = unless(buttons_allowed(kind, b), AT_BYTE_3, fourth);
     unless(buttons_allowed(kind, a), AT_BYTE_2, third)
+}
+
+pub fn buttons_fault(kind: u32, a: u8, b: u8, c: u8) -> u16
+    ensures { λ r. ⌜ r ≡ fieldRefusal (buttonsFault kind a b c) ⌝ }
+{
+    match kind {
+        VMB8IR => 0,
+        VMB2BL => 0,
+        _ => some_buttons_fault(kind, a, b, c),
+    }
 }
 
 pub fn channel_fault(kind: u32, channel: u8) -> u16

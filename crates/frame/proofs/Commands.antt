@@ -11,8 +11,8 @@ use lib.Dec.{eqb, leb}
 use borrow.Author.Tests.{leb-true}
 use Rattle.laws.specs.Tests.{among}
 use Rattle.laws.proofs.Testing.{or-right}
-use Rattle.types.specs.Types.{longType, shortType, rowFor, isListed}
-use Rattle.types.proofs.Listed.{of-listed}
+use Rattle.kinds.specs.Types.{longType, shortType, rowFor, isListed}
+use Rattle.kinds.proofs.Listed.{of-listed}
 use Rattle.frame.specs.Messages.{Reader, readers, typeCommand}
 
 -- the commands that the table of readers has a line for; every listed one is among them

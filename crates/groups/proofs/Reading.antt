@@ -14,8 +14,8 @@ use lib.Seq.{drop-cons}
 use lib.Dec.{ltb, eqb}
 use borrow.Author.Tests.{lt-ltb, le-ltb, eq-eqb, ne-eqb, ltb-false, eqb-false}
 use Rattle.laws.proofs.Choices.{cond-elim}
-use Rattle.groups.specs.declared.reads.Found.{Found}
-use Rattle.groups.specs.declared.reads.Found.the-variants.{Value, Ends, Bad}
+use Rattle.groups.specs.declared.scan.Found.{Found}
+use Rattle.groups.specs.declared.scan.Found.the-variants.{Value, Ends, Bad}
 use Rattle.groups.specs.Number.{readNumber, joined}
 
 -- two constructors are not equal

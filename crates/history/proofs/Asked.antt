@@ -10,7 +10,7 @@ use lib.ListN.{getD}
 use borrow.Author.Tests.{ltb-true, lt-ltb, leb-true}
 use Rattle.laws.specs.Tab.{tab}
 use Rattle.laws.proofs.Tab.{getD-tab, tab-ext}
-use Rattle.types.specs.Types.{extentOf}
+use Rattle.kinds.specs.Types.{extentOf}
 use Rattle.shape.specs.declared.answers.Answer.{Answer}
 use Rattle.shape.specs.declared.answers.Answer.the-variants.{Value, NotHeard}
 use Rattle.shape.specs.Limits.{room, addresses}

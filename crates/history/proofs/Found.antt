@@ -11,7 +11,7 @@ use borrow.Author.Tests.{eqb-true, ltb-true, lt-ltb, eq-eqb}
 use Rattle.laws.specs.Tab.{tab}
 use Rattle.laws.proofs.Tab.{length-tab, getD-tab}
 use Rattle.laws.proofs.Testing.{and-both}
-use Rattle.types.specs.Types.{noType}
+use Rattle.kinds.specs.Types.{noType}
 use Rattle.shape.specs.Layout.{slotAt, recordAt, kindAt}
 use Rattle.shape.specs.Limits.{room}
 use Rattle.shape.specs.Head.{modulesOf, noSlot, believed, slotOf, kindIn}

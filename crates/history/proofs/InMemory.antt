@@ -11,7 +11,7 @@ use borrow.Author.Tests.{le-leb}
 use Rattle.laws.specs.Refusals.{typeNotKnown, tooShort}
 use Rattle.frame.specs.declared.messages.Message.the-variants.{Tells}
 use Rattle.frame.specs.declared.messages.Command.the-variants.{CellTold, BlockTold, CellSet, BlockSet, NameOne, NameTwo, NameThree}
-use Rattle.types.specs.Types.{lineOf, nameOf, extentOf}
+use Rattle.kinds.specs.Types.{lineOf, nameOf, extentOf}
 use Rattle.shape.specs.Limits.{room}
 use Rattle.places.specs.Places.{firstCharacter, characterPlace, cellPlace, hasName}
 use Rattle.shape.specs.Layout.{placeAt}

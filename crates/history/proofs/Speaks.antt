@@ -14,7 +14,7 @@ use Rattle.frame.specs.declared.messages.Glow.the-variants.{Off, On, Slow, Fast
 use Rattle.frame.specs.declared.messages.Command.{Command}
 use Rattle.frame.specs.declared.messages.Command.the-variants.{TypeLong, TypeShort, Buttons, CellTold, BlockTold, CellAsked, BlockAsked, DumpAsked, CellSet, BlockSet, Errors, ErrorsAsked, NameOne, NameTwo, NameThree, NameAsked, StatusAsked, InputStatus, LedsAll, Leds, BlindStatus, BlindStop, BlindUp, BlindDown}
 use Rattle.frame.specs.declared.messages.Message.the-variants.{TypeRequest, Tells}
-use Rattle.types.specs.Types.{lineOf, positionIn, nameOf, blindOf}
+use Rattle.kinds.specs.Types.{lineOf, positionIn, nameOf, blindOf}
 use Rattle.places.specs.Places.{ledPlace, characterPlace, cellPlace}
 use Rattle.places.specs.Runs.{Saying, silent, asks, tells, saidFrom, noRun, telling, asking, buildTold, namedBlind, blindState, bit, glowNumber, glowBy, ledBy, ledIf, allLeds, someLeds, meaningOf, meant}
 use Rattle.history.specs.Speaks.{tellsOf, asksAll, isOne, ledNumber, ledState, tellsLed, tellsIf, Just, Nothing, Build, NamesNumbered, BlindsNumbered, Spoken, SpeaksOf}

@@ -11,7 +11,7 @@ use borrow.Author.Tests.{ltb-true, lt-ltb, ne-eqb}
 use Rattle.laws.specs.Refusals.{noRoom}
 use Rattle.laws.specs.Tab.{tab}
 use Rattle.laws.proofs.Tab.{getD-tab, tab-ext}
-use Rattle.types.specs.Types.{noType}
+use Rattle.kinds.specs.Types.{noType}
 use Rattle.shape.specs.Limits.{room, ring, addresses}
 use Rattle.places.specs.Runs.{Run, Saying, Meaning, refuses, names, enters}
 use Rattle.places.specs.Fitting.{Fits, FitsAs}
@@ -20,8 +20,10 @@ use Rattle.shape.specs.Head.{modulesOf, keptOf, nextOf, depthOf, before, noSlot
 use Rattle.shape.specs.Result.{Result, refusing, done}
 use Rattle.places.proofs.Fitting.{runs-fit}
 use Rattle.steering.specs.Steps.{stepped}
-use Rattle.picture.specs.Hearing.{toldBytes, sameBytes, isEmpty, naming, enteredBytes, exchangedBytes, entering, hearingAs, hearingAt, hearing}
-use Rattle.picture.specs.Stepping.{undone, backOver, steppingBack}
+use Rattle.changes.specs.Telling.{toldBytes, sameBytes, isEmpty, naming}
+use Rattle.changes.specs.Records.{enteredBytes, exchangedBytes}
+use Rattle.picture.specs.Hearing.{entering, hearingAs, hearingAt, hearing}
+use Rattle.changes.specs.Stepping.{undone, backOver, steppingBack}
 use Rattle.history.specs.Standing.{Frame, address, sense, meaning, exchanged, outcomeOf, hear, back}
 use Rattle.history.specs.Machine.{Module, Undo, same, entered, wrote, State, Step, find, slot, kindOf, olds, told-by, new, undo, logged, kept-as, told-in, hears, backs, step}
 use Rattle.history.specs.Demand3.{doing}

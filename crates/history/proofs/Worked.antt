@@ -3,7 +3,7 @@ use native.Mathlib.Omega.{arith}
 use mathlib.Core.Path.{refl, ap}
 use mathlib.Core.List.{[], reverse}
 use Rattle.laws.specs.Tab.{tab}
-use Rattle.types.specs.Types.{lineOf, rowsOf, extentOf, positionIn, blindOf}
+use Rattle.kinds.specs.Types.{lineOf, rowsOf, extentOf, positionIn, blindOf}
 use Rattle.judging.specs.Reading.{reading, commandRead, requestRead}
 use Rattle.places.specs.Places.{cellAsked, ledAsked, blindAsked}
 use Rattle.places.specs.Runs.{saidFrom, meaningOf, meant, readAs}

@@ -7,7 +7,7 @@ use mathlib.Core.Option.{Option, none, some}
 use lib.ListN.{length}
 use Rattle.laws.specs.Refusals.{noRoom}
 use Rattle.frame.specs.Identifiers.{addressOf}
-use Rattle.types.specs.Types.{noType}
+use Rattle.kinds.specs.Types.{noType}
 use Rattle.judging.specs.Reading.{reading}
 use Rattle.frame.specs.declared.messages.Command.{Command}
 use Rattle.frame.specs.declared.messages.Message.the-variants as message

@@ -8,7 +8,7 @@ use lib.ListN.{length, getD}
 use Rattle.frame.specs.declared.messages.Location.{Location}
 use Rattle.frame.specs.declared.messages.Command.{Command}
 use Rattle.frame.specs.declared.messages.Command.the-variants.{CellTold, BlockTold, CellSet, BlockSet, NameOne, NameTwo, NameThree}
-use Rattle.types.specs.Types.{nameOf, extentOf}
+use Rattle.kinds.specs.Types.{nameOf, extentOf}
 use Rattle.places.specs.Places.{characterPlace, cellPlace}
 use Rattle.places.specs.Runs.{silent, said, runIn, meaningOf}
 use Rattle.questions.specs.Question.{type-of, name-row, memory-row, value}

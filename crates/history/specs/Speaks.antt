@@ -12,7 +12,7 @@ use Rattle.frame.specs.declared.messages.Command.{Command}
 use Rattle.frame.specs.declared.messages.Command.the-variants.{TypeLong, TypeShort, Buttons, CellTold, BlockTold, CellAsked, BlockAsked, DumpAsked, CellSet, BlockSet, Errors, ErrorsAsked, NameOne, NameTwo, NameThree, NameAsked, StatusAsked, InputStatus, LedsAll, Leds, BlindStatus, BlindStop, BlindUp, BlindDown}
 use Rattle.frame.specs.declared.messages.Message.{Message}
 use Rattle.frame.specs.declared.messages.Message.the-variants.{TypeRequest, Tells}
-use Rattle.types.specs.Types.{nameOf, blindOf}
+use Rattle.kinds.specs.Types.{nameOf, blindOf}
 use Rattle.places.specs.Places.{yearPlace, weekPlace, ledPlace, blindPlace, characterPlace, cellPlace}
 use Rattle.places.specs.Runs.{Saying, silent, asks, tells, Run, said, blindState, Meaning, refuses, names, enters, meant}
 

@@ -7,7 +7,7 @@ use mathlib.Core.Option.{Option, none, some}
 use lib.Dec.{eqb, ltb}
 use Rattle.laws.specs.Refusals.{noRoom, nothingKept}
 use Rattle.frame.specs.Identifiers.{addressOf}
-use Rattle.types.specs.Types.{noType}
+use Rattle.kinds.specs.Types.{noType}
 use Rattle.judging.specs.Reading.{reading}
 use Rattle.shape.specs.declared.answers.Outcome.{Outcome}
 use Rattle.shape.specs.declared.answers.Outcome.the-variants as outcome

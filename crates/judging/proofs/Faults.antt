@@ -13,7 +13,7 @@ use Rattle.laws.specs.Refusals.{badType, typeNotKnown, wrongLength}
 use Rattle.laws.specs.Tests.{among}
 use Rattle.laws.proofs.Keys.{NoneOf, not-among, for-any}
 use Rattle.laws.proofs.Testing.{or-right}
-use Rattle.types.specs.Types.{noType, moduleTypes}
+use Rattle.kinds.specs.Types.{noType, moduleTypes}
 use Rattle.frame.specs.Bytes.{bytesOf}
 use Rattle.frame.specs.Messages.{Reader, readers, unlisted, typeCommand, decode}
 use Rattle.fields.specs.Fields.{fault, fieldRefusal}

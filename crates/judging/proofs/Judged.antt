@@ -11,7 +11,7 @@ use borrow.Author.Tests.{eqb-true, leb-true, eq-eqb, le-leb}
 use Rattle.laws.specs.Tests.{among, unless}
 use Rattle.laws.specs.Refusals.{badIdentifier, sid0Set, badForm, badPriority, badType, typeNotKnown, notListed, wrongLength, wrongPriority, badField, codeAt}
 use Rattle.laws.proofs.Testing.{not-both, and-both, held}
-use Rattle.types.specs.Types.{low, priorities, noType, moduleTypes, handedTypes, rowFor, isListed}
+use Rattle.kinds.specs.Types.{low, priorities, noType, moduleTypes, handedTypes, rowFor, isListed}
 use Rattle.frame.specs.Identifiers.{priorityOf, addressOf, identifierOf, elevenBits, sid0Clear, wellFormed}
 use Rattle.frame.specs.Bytes.{dataOf}
 use Rattle.frame.specs.Messages.{typeCommand}
@@ -20,7 +20,7 @@ use Rattle.judging.specs.Reading.{frameRefusal, rowRefusal, ownType, com
 use Rattle.frame.specs.declared.bytes.Data.{Data}
 use Rattle.frame.specs.declared.identifiers.Address.{Address}
 use Rattle.frame.specs.declared.messages.Command.{Command}
-use Rattle.types.proofs.Listed.{listed-module, module-some}
+use Rattle.kinds.proofs.Listed.{listed-module, module-some}
 use Rattle.frame.proofs.Commands.{type-sized}
 
 -- The frame's own tests.

@@ -1,4 +1,4 @@
 pub mod Judged
 pub mod Numbers
 pub mod Faults
-pub mod AtSight
+pub mod Handed

@@ -19,7 +19,7 @@ use borrow.Author.Tests.{eqb-true, eqb-false, eq-eqb, ne-eqb}
 use Rattle.laws.specs.Refusals.{notListed, wrongLength, wrongPriority}
 use Rattle.laws.specs.Tests.{unless, unlessRefused}
 use Rattle.frame.specs.Identifiers.{priorityOf, addressOf}
-use Rattle.types.specs.Types.{rowFor, isListed}
+use Rattle.kinds.specs.Types.{rowFor, isListed}
 use Rattle.frame.specs.Bytes.{dataOf, bytesOf}
 use Rattle.frame.specs.Messages.{decode}
 use Rattle.fields.specs.Fields.{fieldRefusal}

@@ -7,7 +7,7 @@ use lib.Dec.{eqb, leb}
 use Rattle.laws.specs.Refusals.{badIdentifier, sid0Set, badForm, badPriority, badType, typeNotKnown, notListed, wrongLength, wrongPriority}
 use Rattle.laws.specs.Tests.{among, unless, unlessRefused}
 use Rattle.laws.specs.Answers.{Numbers, value, refusal, refusalIn}
-use Rattle.types.specs.Types.{low, priorities, noType, moduleTypes, handedTypes, rowFor, isListed}
+use Rattle.kinds.specs.Types.{low, priorities, noType, moduleTypes, handedTypes, rowFor, isListed}
 use Rattle.frame.specs.Identifiers.{priorityOf, addressOf, elevenBits, sid0Clear, wellFormed}
 use Rattle.frame.specs.Bytes.{dataOf, bytesOf}
 use Rattle.frame.specs.Messages.{typeCommand, decode}

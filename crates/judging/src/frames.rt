@@ -1,11 +1,12 @@
 // A frame judged on its bytes, with no message made of it: the first refusal in document 01's order, a 9 with its byte, and 0 where there is none.
-use crate::commands::refusal_by_row;
-use crate::commands::row_refusal;
-use crate::sight::fits_at_sight;
+use crate::rows::refusal_by_row;
 use frame::LOW;
 use frame::TYPE_FRAME;
 use frame::known_priority;
 use frame::well_formed;
+use kinds::NO_TYPE;
+use kinds::handed_type;
+use kinds::module_type;
 use laws::BAD_FORM;
 use laws::BAD_IDENTIFIER;
 use laws::BAD_PRIORITY;
@@ -19,15 +20,12 @@ use laws::both;
 use laws::byte_at;
 use laws::unless;
 use laws::wide32;
-use types::NO_TYPE;
-use types::handed_type;
-use types::module_type;
 ghost use mathlib.Core.Path.{_≡_};
 ghost use Prim.Native.Nat.{ℕ};
 ghost use Rattle.laws.specs.Refusals.{badIdentifier, sid0Set};
 ghost use Rattle.laws.specs.Tests.{unless};
 ghost use Rattle.frame.specs.Identifiers.{elevenBits};
-ghost use Rattle.types.specs.Types.{noType};
+ghost use Rattle.kinds.specs.Types.{noType};
 ghost use Rattle.frame.specs.Bytes.{byte, dataOf, bytesOf};
 ghost use Rattle.frame.specs.Messages.{typeCommand, decode};
 ghost use Rattle.judging.specs.Reading.{frameRefusal, commandRefusal, requestRefusal, reading, readingNumber};
@@ -58,6 +56,13 @@ fn frame_refusal(kind: u32, identifier: u32, remote: u32, count: usize) -> u16
     0
 }
 
+// The same of a type that may be handed in, whichever it is.
+pub fn form_refusal(identifier: u32, remote: u32, count: usize) -> u16
+    ensures { λ r. ⌜ r ≡ frameRefusal noType identifier remote count ⌝ }
+{
+    frame_refusal(NO_TYPE, identifier, remote, count)
+}
+
 // H'FF', by the type inside it, whatever type is handed in: 7, 4, then the row's and the fields'.
 fn type_refusal(priority: u32, data: &[u8]) -> u16
     requires { ⌜ byte 1 (now «data») ≡ typeCommand ⌝ }
@@ -77,17 +82,18 @@ fn type_refusal(priority: u32, data: &[u8]) -> u16
 fn command_refusal(kind: u32, priority: u32, data: &[u8]) -> u16
     ensures { λ r. ⌜ r ≡ commandRefusal kind priority (dataOf (now («data» .entry))) (decode (bytesOf (dataOf (now («data» .entry))))) ⌝ }
 {
-    if byte_at(data, 0) == TYPE_FRAME {
+    let command = byte_at(data, 0);
+    if command == TYPE_FRAME {
         return type_refusal(priority, data);
     }
     if kind == NO_TYPE {
         return TYPE_NOT_KNOWN;
     }
-    row_refusal(kind, priority, data)
+    refusal_by_row(kind, command, priority, data)
 }
 
-// The same at no type.
-fn untyped_refusal(priority: u32, data: &[u8]) -> u16
+// The same at no type, and of H'FF' at any.
+pub fn untyped_refusal(priority: u32, data: &[u8]) -> u16
     ensures { λ r. ⌜ r ≡ commandRefusal noType priority (dataOf (now («data» .entry))) (decode (bytesOf (dataOf (now («data» .entry))))) ⌝ }
 {
     if byte_at(data, 0) == TYPE_FRAME {
@@ -98,7 +104,7 @@ fn untyped_refusal(priority: u32, data: &[u8]) -> u16
 }
 
 // A remote frame, at any address.
-fn request_refusal(priority: u32) -> u16
+pub fn request_refusal(priority: u32) -> u16
     ensures { λ r. ⌜ r ≡ requestRefusal priority ⌝ }
 {
     if priority == LOW { 0 } else { WRONG_PRIORITY }
@@ -120,21 +126,11 @@ pub fn judge(kind: u32, identifier: u32, remote: u32, data: &[u8]) -> u16
     }
 }
 
-// The same, with the short way in front.
-pub fn refusal(kind: u32, identifier: u32, remote: u32, data: &[u8]) -> u16
-    ensures { λ r. ⌜ r ≡ readingNumber (reading kind identifier remote (now («data» .entry))) ⌝ }
-{
-    if fits_at_sight(kind, identifier, remote, data) {
-        return 0;
-    }
-    judge(kind, identifier, remote, data)
-}
-
 // Of an address with no type: only the type request and H'FF' can pass.
 pub fn refusal_unlisted(identifier: u32, remote: u32, data: &[u8]) -> u16
     ensures { λ r. ⌜ r ≡ readingNumber (reading noType identifier remote (now («data» .entry))) ⌝ }
 {
-    let n = frame_refusal(NO_TYPE, identifier, remote, data.len());
+    let n = form_refusal(identifier, remote, data.len());
     if n != 0 {
         return n;
     }

@@ -4,7 +4,7 @@ use mathlib.Core.List.{List, [], _∷_}
 use mathlib.Core.Bool.{Bool, cond, _&&_}
 use lib.Dec.{eqb}
 use Rattle.laws.specs.Tests.{firstFor}
-use Rattle.types.specs.Types.{vmb1bl, vmb8ir, vmb2bl}
+use Rattle.kinds.specs.Types.{vmb1bl, vmb8ir, vmb2bl}
 use Rattle.frame.specs.declared.identifiers.Address.{Address}
 use Rattle.frame.specs.declared.messages.Location.{Location}
 use Rattle.frame.specs.declared.messages.Time.{Time}

@@ -5,11 +5,11 @@ use frame::Glow;
 use frame::Location;
 use frame::Message;
 use frame::Time;
+use kinds::VMB1BL;
+use kinds::VMB2BL;
+use kinds::VMB8IR;
 use laws::both;
 use places::glow_number;
-use types::VMB1BL;
-use types::VMB2BL;
-use types::VMB8IR;
 ghost use mathlib.Core.Path.{_≡_};
 ghost use Rattle.layouts.specs.Parts.{
   glowFrom,

@@ -7,7 +7,7 @@ use mathlib.Core.List.{List, [], _∷_, map}
 use lib.Dec.{eqb}
 use borrow.Author.Tests.{eqb-true}
 use Rattle.laws.specs.Tab.{tab}
-use Rattle.types.specs.Types.{vmb8ir, nameOf, lineOf}
+use Rattle.kinds.specs.Types.{vmb8ir, nameOf, lineOf}
 use Rattle.frame.specs.declared.messages.Glow.{Glow}
 use Rattle.frame.specs.declared.messages.Glow.the-variants.{On, Slow, Fast, VeryFast}
 use Rattle.frame.specs.declared.messages.Command.{Command}

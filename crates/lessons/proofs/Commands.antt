@@ -10,7 +10,7 @@ use Rattle.laws.specs.Limits.{AllBytes}
 use Rattle.laws.specs.Tests.{among}
 use Rattle.laws.specs.Refusals.{notListed}
 use Rattle.laws.proofs.Testing.{unrefused}
-use Rattle.types.specs.Types.{vmb8ir, rowsOf}
+use Rattle.kinds.specs.Types.{vmb8ir, rowsOf}
 use Rattle.frame.specs.Bytes.{byte, dataOf, dataBytes}
 use Rattle.fields.specs.Fields.{fault}
 use Rattle.frame.specs.declared.identifiers.Address.{Address}

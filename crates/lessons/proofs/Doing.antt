@@ -13,7 +13,7 @@ use Rattle.laws.specs.Tab.{tab}
 use Rattle.laws.proofs.Tab.{length-tab}
 use Rattle.laws.specs.Tests.{unless}
 use Rattle.laws.proofs.Testing.{held}
-use Rattle.types.specs.Types.{vmb8ir, lineOf}
+use Rattle.kinds.specs.Types.{vmb8ir, lineOf}
 use Rattle.fields.specs.Fields.{fault, cellFault, blockFault}
 use Rattle.frame.specs.declared.messages.Glow.{Glow}
 use Rattle.frame.specs.declared.messages.Glow.the-variants.{Off, On, Slow, Fast, VeryFast}

@@ -8,7 +8,7 @@ use mathlib.Core.Option.{none, some}
 use lib.Dec.{eqb}
 use lib.ListN.{length}
 use borrow.Author.Tests.{eqb-false, eq-eqb, lt-ltb}
-use Rattle.types.specs.Types.{vmb8ir}
+use Rattle.kinds.specs.Types.{vmb8ir}
 use Rattle.places.specs.Runs.{Run, said, noRun, names, enters}
 use Rattle.shape.specs.Layout.{size}
 use Rattle.history.specs.Standing.{mostListed, deepest, Frame, address, meaning, typed, typeOf, Known, unknown, after, gave, latest, listed, Judgement, refused, accepted, exchanged, judged, judgement, outcomeOf, hear, stands, standing, answered}

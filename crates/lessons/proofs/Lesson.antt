@@ -15,7 +15,7 @@ use Rattle.laws.specs.Refusals.{noSuchPlace}
 use Rattle.laws.specs.Tests.{among}
 use Rattle.laws.specs.Tab.{tab}
 use Rattle.laws.proofs.Tab.{length-tab, getD-tab}
-use Rattle.types.specs.Types.{vmb8ir, noType, handedTypes, lineOf, rowsOf, extentOf}
+use Rattle.kinds.specs.Types.{vmb8ir, noType, handedTypes, lineOf, rowsOf, extentOf}
 use Rattle.frame.specs.Bytes.{byte}
 use Rattle.frame.specs.declared.messages.Command.the-variants.{DumpAsked, StatusAsked}
 use Rattle.frame.specs.declared.messages.Message.{Message}

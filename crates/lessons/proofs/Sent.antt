@@ -10,7 +10,7 @@ use lib.Seq.{sets, sets-eq, take-at, drop-at}
 use borrow.Author.Tests.{le-leb}
 use Rattle.laws.specs.Tests.{among}
 use Rattle.laws.proofs.Testing.{unrefused-is}
-use Rattle.types.specs.Types.{vmb8ir, lineOf, rowsOf, rowFor, isListed, handedTypes}
+use Rattle.kinds.specs.Types.{vmb8ir, lineOf, rowsOf, rowFor, isListed, handedTypes}
 use Rattle.frame.specs.Bytes.{dataOf}
 use Rattle.fields.specs.Fields.{fault, blockFault, askedAllowed}
 use Rattle.frame.specs.declared.bytes.Data.{Data}

@@ -16,8 +16,8 @@ use borrow.Author.Tests.{lt-ltb, le-ltb, ne-eqb, ltb-true, ltb-false, eqb-false}
 use Rattle.laws.specs.Limits.{AllBytes}
 use Rattle.laws.proofs.Choices.{cond-elim}
 use Rattle.laws.proofs.Testing.{not-both}
-use Rattle.groups.specs.declared.reads.Found.{Found}
-use Rattle.groups.specs.declared.reads.Found.the-variants.{Value, Ends, Bad}
+use Rattle.groups.specs.declared.scan.Found.{Found}
+use Rattle.groups.specs.declared.scan.Found.the-variants.{Value, Ends, Bad}
 use Rattle.groups.specs.Number.{mostGroups, numberBytes, bytesOf, groupsOf, joined, readNumber, numberAt}
 use Rattle.numbers.specs.Statements.{isBad, most64, NumbersReadBack, ReadIsSpelt, MoreIsAllowed}
 use Rattle.groups.proofs.Reading.{step, number-head, value-at}

@@ -1,5 +1,5 @@
 // Seven-bit numbers: the reader of the number at an offset.
 mod quick;
-mod reads;
+mod scan;
 
-pub use reads::number;
+pub use scan::number;

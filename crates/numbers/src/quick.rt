@@ -3,7 +3,7 @@ use groups::wide;
 ghost use mathlib.Core.Path.{_≡_};
 ghost use Prim.Native.Nat.{_+_, _<_, _≤_};
 ghost use lib.ListN.{length, getD};
-ghost use Rattle.groups.specs.declared.reads.Found.the-variants.{Value};
+ghost use Rattle.groups.specs.declared.scan.Found.the-variants.{Value};
 ghost use Rattle.groups.specs.Number.{numberAt};
 
 // A number, and the count of its groups: 0 where the quick way does not lead to one.

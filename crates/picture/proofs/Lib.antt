@@ -1,3 +1,5 @@
-pub mod Storing
 pub mod Meant
 pub mod Heard
+pub mod Entries
+pub mod Frames
+pub mod Told

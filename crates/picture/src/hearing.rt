@@ -1,166 +1,224 @@
-// Hearing a frame.
-use crate::commands::tell_command;
-use crate::log::DID_ENTER;
-use crate::log::note;
-use crate::records::new_record;
-use crate::telling::pass;
-use crate::telling::tell_build;
-use frame::Address;
+// Hearing a frame: its number, 0 where it is accepted, and what it does to the picture. Its own tests come first, then a type request and the type
+// frame; every other command is judged and told at one look.
+use changes::enter;
+use changes::exchange;
+use changes::pass;
+use changes::tell_build;
+use commands::hear_command;
 use frame::TYPE_FRAME;
 use frame::address_of;
-use laws::NO_ROOM;
+use judging::form_refusal;
+use judging::refusal_unlisted;
+use judging::request_refusal;
+use judging::untyped_refusal;
+use kinds::NO_TYPE;
+use kinds::handed_type;
+use laws::BAD_TYPE;
 use laws::TOO_SHORT;
+use laws::TYPE_NOT_KNOWN;
 use laws::byte_at;
+use laws::unless;
 use laws::wide32;
-use shape::COUNT_AT;
-use shape::KEPT_AT;
-use shape::NO_SLOT;
 use shape::Outcome;
 use shape::ROOM;
 use shape::SIZE;
 use shape::kind_in;
-use shape::modules_of;
-use shape::next_of;
-use shape::put_at;
-use shape::slot_at;
 use shape::slot_of;
-use steering::step_on;
-use types::NO_TYPE;
 ghost use mathlib.Core.Path.{_≡_};
+ghost use mathlib.Core.Bool.{true};
 ghost use Prim.Native.Nat.{_<_, _≤_};
 ghost use lib.ListN.{length};
-ghost use Rattle.types.specs.Types.{rowFor};
+ghost use Rattle.laws.specs.Refusals.{badType};
+ghost use Rattle.laws.specs.Tests.{among, unless};
+ghost use Rattle.kinds.specs.Types.{noType, handedTypes, rowFor};
 ghost use Rattle.frame.specs.Bytes.{byte};
 ghost use Rattle.frame.specs.Messages.{typeCommand, typeFrame};
-ghost use Rattle.shape.specs.Limits.{room};
-ghost use Rattle.places.specs.Runs.{buildTold, meaningOf};
+ghost use Rattle.judging.specs.Reading.{frameRefusal};
+ghost use Rattle.places.specs.Runs.{meaningOf};
+ghost use Rattle.shape.specs.Limits.{room, busAddress};
 ghost use Rattle.shape.specs.Layout.{size};
-ghost use Rattle.shape.specs.Head.{modulesOf, noSlot};
-ghost use Rattle.picture.specs.Hearing.{listedAt, enteredBytes, exchangedBytes, entering, hearingAs, hearingAt, hearing};
+ghost use Rattle.shape.specs.Head.{noSlot, kindIn};
+ghost use Rattle.picture.specs.Hearing.{hearingAs, hearingAt, hearing, numberOf};
 
-// A module more.
-fn list_at(picture: &mut [u8], slot: u8, address: Address)
-    requires { ⌜ slot < 255 ⌝ }
-    ensures { λ _. ⌜ now (picture .exit) ≡ listedAt (now (picture .entry)) slot (address .0) ⌝ }
-{
-    put_at(picture, slot_at(address), slot);
-    put_at(picture, COUNT_AT, slot + 1);
-}
-
-fn enter(picture: &mut [u8], address: Address, kind: u8, year: u8, week: u8)
-    requires { ⌜ (size ≤ length (now picture)) × (modulesOf (now picture) < room) ⌝ }
-    ensures { λ _. ⌜ now (picture .exit) ≡ enteredBytes (now (picture .entry)) (address .0) kind (buildTold year week) ⌝ }
-{
-    let slot = modules_of(picture);
-    let entry = next_of(picture);
-    note(picture, entry, DID_ENTER);
-    new_record(picture, slot, address, kind, year, week);
-    list_at(picture, slot, address);
-    step_on(picture);
-}
-
-// Another module at the address: a new record, and no way back.
-fn exchange(picture: &mut [u8], slot: u8, address: Address, kind: u8, year: u8, week: u8)
-    requires { ⌜ (size ≤ length (now picture)) × (slot < room) ⌝ }
-    ensures { λ _. ⌜ now (picture .exit) ≡ exchangedBytes (now (picture .entry)) slot (address .0) kind (buildTold year week) ⌝ }
-{
-    new_record(picture, slot, address, kind, year, week);
-    put_at(picture, KEPT_AT, 0);
-}
-
-// An entry as the type `entered`, at an address whose slot is `slot` and whose type is `kind`.
-fn enter_as(
-    picture: &mut [u8],
-    slot: u8,
-    address: Address,
-    kind: u8,
-    entered: u8,
-    year: u8,
-    week: u8,
-) -> Outcome
-    requires { ⌜ size ≤ length (now picture) ⌝ }
-    ensures { λ r. ⌜ r ≡ entering (now (picture .entry)) slot (address .0) kind entered (buildTold year week) .outcome ⌝ }
-    ensures { λ _. ⌜ now (picture .exit) ≡ entering (now (picture .entry)) slot (address .0) kind entered (buildTold year week) .buffer ⌝ }
-{
-    if slot < ROOM {
-        if kind == entered {
-            tell_build(picture, slot, year, week);
-            return Outcome::Done;
-        }
-        exchange(picture, slot, address, entered, year, week);
-        return Outcome::Done;
-    }
-    if modules_of(picture) < ROOM {
-        enter(picture, address, entered, year, week);
-        return Outcome::Done;
-    }
-    Outcome::Refused(NO_ROOM)
-}
-
-// A type frame that was accepted: byte 2 is the type, and the last two bytes are the build.
-fn hear_type(picture: &mut [u8], slot: u8, address: Address, kind: u8, data: &[u8]) -> Outcome
-    requires { ⌜ (size ≤ length (now picture)) × (2 ≤ length (now «data»)) ⌝ }
+// A type frame that was accepted, of the module in a slot: byte 2 is the type, and the last two bytes are the build.
+fn enter_again(picture: &mut [u8], slot: u8, identifier: u32, kind: u8, data: &[u8])
+    requires { ⌜ (size ≤ length (now picture)) × (slot < room) × (2 ≤ length (now «data»)) ⌝ }
     requires { ⌜ length (now «data») ≡ rowFor (byte 2 (now «data»)) typeCommand .0 ⌝ }
-    ensures { λ r. ⌜ r ≡ hearingAs (now (picture .entry)) slot (address .0) kind (meaningOf kind (typeFrame (now («data» .entry)))) .outcome ⌝ }
-    ensures { λ _. ⌜ now (picture .exit) ≡ hearingAs (now (picture .entry)) slot (address .0) kind (meaningOf kind (typeFrame (now («data» .entry)))) .buffer ⌝ }
+    ensures { λ _. ⌜ now (picture .exit) ≡ hearingAs (now (picture .entry)) slot (busAddress identifier) kind (meaningOf kind (typeFrame (now («data» .entry)))) .buffer ⌝ }
 {
     let last = data.len() - 1;
+    let year = data[last - 1];
+    let week = data[last];
     let entered = byte_at(data, 1);
-    enter_as(
+    if entered == kind {
+        tell_build(picture, slot, year, week);
+        return;
+    }
+    exchange(picture, slot, address_of(identifier), entered, year, week);
+}
+
+// The same of an address with no module: 10 where there is no room.
+fn enter_new(picture: &mut [u8], identifier: u32, data: &[u8]) -> u16
+    requires { ⌜ (size ≤ length (now picture)) × (2 ≤ length (now «data»)) ⌝ }
+    requires { ⌜ length (now «data») ≡ rowFor (byte 2 (now «data»)) typeCommand .0 ⌝ }
+    ensures { λ r. ⌜ r ≡ numberOf (hearingAs (now (picture .entry)) noSlot (busAddress identifier) noType (meaningOf noType (typeFrame (now («data» .entry))))) ⌝ }
+    ensures { λ _. ⌜ now (picture .exit) ≡ hearingAs (now (picture .entry)) noSlot (busAddress identifier) noType (meaningOf noType (typeFrame (now («data» .entry)))) .buffer ⌝ }
+{
+    let last = data.len() - 1;
+    let year = data[last - 1];
+    let week = data[last];
+    enter(
         picture,
-        slot,
-        address,
-        kind,
-        entered,
-        data[last - 1],
-        data[last],
+        address_of(identifier),
+        byte_at(data, 1),
+        year,
+        week,
     )
 }
 
-// A frame of the module in a slot.
-fn hear_listed(picture: &mut [u8], slot: u8, identifier: u32, remote: u32, data: &[u8]) -> Outcome
-    requires { ⌜ (size ≤ length (now picture)) × (slot < room) ⌝ }
-    ensures { λ r. ⌜ r ≡ hearingAt (now (picture .entry)) slot identifier remote (now («data» .entry)) .outcome ⌝ }
+// A type frame, of the module in a slot: it is judged by the type inside it.
+fn hear_type(
+    picture: &mut [u8],
+    slot: u8,
+    kind: u8,
+    identifier: u32,
+    remote: u32,
+    data: &[u8],
+) -> u16
+    requires { ⌜ (size ≤ length (now picture)) × (slot < room) × (kind ≡ kindIn (now picture) slot) ⌝ }
+    requires { ⌜ (among kind handedTypes ≡ true) × (frameRefusal noType identifier remote (length (now «data»)) ≡ 0) × (remote ≡ 1 → ⊥) × (byte 1 (now «data») ≡ typeCommand) ⌝ }
+    ensures { λ r. ⌜ r ≡ numberOf (hearingAt (now (picture .entry)) slot identifier remote (now («data» .entry))) ⌝ }
     ensures { λ _. ⌜ now (picture .exit) ≡ hearingAt (now (picture .entry)) slot identifier remote (now («data» .entry)) .buffer ⌝ }
 {
-    let kind = kind_in(picture, slot);
-    let number = judging::refusal(wide32(kind), identifier, remote, data);
-    if number != 0 {
-        return Outcome::Refused(number);
+    let n = untyped_refusal(identifier / 512, data);
+    if n != 0 {
+        return n;
     }
-    if remote == 1 {
-        pass(picture);
-        return Outcome::Done;
+    enter_again(picture, slot, identifier, kind, data);
+    0
+}
+
+// What a frame is refused for at a type: 4 for one that may not be handed in, before all else.
+fn by_type(kind: u8, n: u16) -> u16
+    ensures { λ r. ⌜ r ≡ unless (among kind handedTypes) badType n ⌝ }
+{
+    unless(handed_type(wide32(kind)), BAD_TYPE, n)
+}
+
+// A type request, at an address whose slot is `slot`: a step with no effect.
+fn hear_request(
+    picture: &mut [u8],
+    slot: u8,
+    kind: u8,
+    identifier: u32,
+    remote: u32,
+    data: &[u8],
+) -> u16
+    requires { ⌜ (size ≤ length (now picture)) × (kind ≡ kindIn (now picture) slot) ⌝ }
+    requires { ⌜ (frameRefusal noType identifier remote (length (now «data»)) ≡ 0) × (remote ≡ 1) ⌝ }
+    ensures { λ r. ⌜ r ≡ numberOf (hearingAt (now (picture .entry)) slot identifier remote (now («data» .entry))) ⌝ }
+    ensures { λ _. ⌜ now (picture .exit) ≡ hearingAt (now (picture .entry)) slot identifier remote (now («data» .entry)) .buffer ⌝ }
+{
+    let n = by_type(kind, request_refusal(identifier / 512));
+    if n != 0 {
+        return n;
     }
-    let command = byte_at(data, 0);
-    if command == TYPE_FRAME {
-        return hear_type(picture, slot, address_of(identifier), kind, data);
-    }
-    tell_command(picture, slot, kind, command, data);
-    Outcome::Done
+    pass(picture);
+    0
 }
 
 // A frame of an address with no module: a type frame enters one, a type request is a step with no effect.
-fn hear_unlisted(picture: &mut [u8], identifier: u32, remote: u32, data: &[u8]) -> Outcome
+fn hear_unlisted(picture: &mut [u8], identifier: u32, remote: u32, data: &[u8]) -> u16
     requires { ⌜ size ≤ length (now picture) ⌝ }
-    ensures { λ r. ⌜ r ≡ hearingAt (now (picture .entry)) noSlot identifier remote (now («data» .entry)) .outcome ⌝ }
+    ensures { λ r. ⌜ r ≡ numberOf (hearingAt (now (picture .entry)) noSlot identifier remote (now («data» .entry))) ⌝ }
     ensures { λ _. ⌜ now (picture .exit) ≡ hearingAt (now (picture .entry)) noSlot identifier remote (now («data» .entry)) .buffer ⌝ }
 {
-    let number = judging::refusal_unlisted(identifier, remote, data);
-    if number != 0 {
-        return Outcome::Refused(number);
+    let n = refusal_unlisted(identifier, remote, data);
+    if n != 0 {
+        return n;
     }
     if remote == 1 {
         pass(picture);
-        return Outcome::Done;
+        return 0;
     }
-    hear_type(
-        picture,
-        NO_SLOT,
-        address_of(identifier),
-        NO_TYPE as u8,
-        data,
-    )
+    enter_new(picture, identifier, data)
+}
+
+// A type frame, where the module's type may be handed in.
+fn hear_type_frame(
+    picture: &mut [u8],
+    slot: u8,
+    kind: u8,
+    identifier: u32,
+    remote: u32,
+    data: &[u8],
+) -> u16
+    requires { ⌜ (size ≤ length (now picture)) × (slot < room) × (kind ≡ kindIn (now picture) slot) ⌝ }
+    requires { ⌜ (frameRefusal noType identifier remote (length (now «data»)) ≡ 0) × (remote ≡ 1 → ⊥) × (byte 1 (now «data») ≡ typeCommand) ⌝ }
+    ensures { λ r. ⌜ r ≡ numberOf (hearingAt (now (picture .entry)) slot identifier remote (now («data» .entry))) ⌝ }
+    ensures { λ _. ⌜ now (picture .exit) ≡ hearingAt (now (picture .entry)) slot identifier remote (now («data» .entry)) .buffer ⌝ }
+{
+    if !handed_type(wide32(kind)) {
+        return BAD_TYPE;
+    }
+    hear_type(picture, slot, kind, identifier, remote, data)
+}
+
+// Any other command of the module in a slot: 4 and 5 go by its type, and the rest by its row and its fields.
+fn hear_other(
+    picture: &mut [u8],
+    slot: u8,
+    kind: u8,
+    identifier: u32,
+    remote: u32,
+    data: &[u8],
+) -> u16
+    requires { ⌜ (size ≤ length (now picture)) × (slot < room) × (kind ≡ kindIn (now picture) slot) ⌝ }
+    requires { ⌜ (frameRefusal noType identifier remote (length (now «data»)) ≡ 0) × (remote ≡ 1 → ⊥) × (byte 1 (now «data») ≡ typeCommand → ⊥) ⌝ }
+    ensures { λ r. ⌜ r ≡ numberOf (hearingAt (now (picture .entry)) slot identifier remote (now («data» .entry))) ⌝ }
+    ensures { λ _. ⌜ now (picture .exit) ≡ hearingAt (now (picture .entry)) slot identifier remote (now («data» .entry)) .buffer ⌝ }
+{
+    let n = hear_command(picture, slot, kind, identifier / 512, data);
+    if n == 0 {
+        return 0;
+    }
+    by_type(kind, unless(wide32(kind) != NO_TYPE, TYPE_NOT_KNOWN, n))
+}
+
+// A frame of the module in a slot.
+fn hear_listed(picture: &mut [u8], slot: u8, identifier: u32, remote: u32, data: &[u8]) -> u16
+    requires { ⌜ (size ≤ length (now picture)) × (slot < room) ⌝ }
+    ensures { λ r. ⌜ r ≡ numberOf (hearingAt (now (picture .entry)) slot identifier remote (now («data» .entry))) ⌝ }
+    ensures { λ _. ⌜ now (picture .exit) ≡ hearingAt (now (picture .entry)) slot identifier remote (now («data» .entry)) .buffer ⌝ }
+{
+    let kind = kind_in(picture, slot);
+    let n = form_refusal(identifier, remote, data.len());
+    if n != 0 {
+        return by_type(kind, n);
+    }
+    if remote == 1 {
+        return hear_request(picture, slot, kind, identifier, remote, data);
+    }
+    if byte_at(data, 0) == TYPE_FRAME {
+        return hear_type_frame(picture, slot, kind, identifier, remote, data);
+    }
+    hear_other(picture, slot, kind, identifier, remote, data)
+}
+
+// A frame heard: the number that it is refused for, 0 where it is accepted.
+pub fn hear_number(picture: &mut [u8], identifier: u32, remote: u32, data: &[u8]) -> u16
+    ensures { λ r. ⌜ r ≡ numberOf (hearing (now (picture .entry)) identifier remote (now («data» .entry))) ⌝ }
+    ensures { λ _. ⌜ now (picture .exit) ≡ hearing (now (picture .entry)) identifier remote (now («data» .entry)) .buffer ⌝ }
+{
+    if picture.len() < SIZE {
+        return TOO_SHORT;
+    }
+    let slot = slot_of(picture, address_of(identifier));
+    if slot < ROOM {
+        hear_listed(picture, slot, identifier, remote, data)
+    } else {
+        hear_unlisted(picture, identifier, remote, data)
+    }
 }
 
 // A frame heard: judged at the type of its address, then entered, told, or only counted as a step.
@@ -168,13 +226,10 @@ pub fn hear(picture: &mut [u8], identifier: u32, remote: u32, data: &[u8]) -> Ou
     ensures { λ r. ⌜ r ≡ hearing (now (picture .entry)) identifier remote (now («data» .entry)) .outcome ⌝ }
     ensures { λ _. ⌜ now (picture .exit) ≡ hearing (now (picture .entry)) identifier remote (now («data» .entry)) .buffer ⌝ }
 {
-    if picture.len() < SIZE {
-        return Outcome::Refused(TOO_SHORT);
-    }
-    let slot = slot_of(picture, address_of(identifier));
-    if slot < ROOM {
-        hear_listed(picture, slot, identifier, remote, data)
+    let n = hear_number(picture, identifier, remote, data);
+    if n == 0 {
+        Outcome::Done
     } else {
-        hear_unlisted(picture, identifier, remote, data)
+        Outcome::Refused(n)
     }
 }

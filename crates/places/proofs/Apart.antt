@@ -6,7 +6,7 @@ use mathlib.Core.Bool.{Bool, true, false, cond}
 use lib.Dec.{eqb, ltb}
 use borrow.Author.Tests.{ne-eqb, lt-ltb, le-ltb}
 use Rattle.places.specs.Apart.{Thing, year, week, led, blind, character, cell, Has, placeOf, is, Apart, Inside}
-use Rattle.types.specs.Types.{namesInMemory}
+use Rattle.kinds.specs.Types.{namesInMemory}
 use Rattle.places.specs.Places.{within, firstCharacter}
 use Rattle.places.proofs.CodePlaces.{within-low, within-high}
 use Rattle.places.proofs.Fitting.{extents-small, first-small}

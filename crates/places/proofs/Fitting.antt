@@ -13,14 +13,14 @@ use Rattle.laws.specs.Tab.{tab}
 use Rattle.laws.specs.Tests.{among, unless}
 use Rattle.laws.proofs.Testing.{_&_, held, unrefused, or-right}
 use Rattle.frame.specs.Identifiers.{priorityOf, addressOf}
-use Rattle.types.specs.Types.{low, longType, Line, types, noLine, lineOf, rowFor, isListed, namesInMemory, cellsOf, ledsOf, blindsOf, channelsOf, lastCell, lastStart, extentOf, positionIn, nameOf, blindOf}
+use Rattle.kinds.specs.Types.{low, longType, Line, types, noLine, lineOf, rowFor, isListed, namesInMemory, cellsOf, ledsOf, blindsOf, channelsOf, lastCell, lastStart, extentOf, positionIn, nameOf, blindOf}
 use Rattle.frame.specs.Bytes.{byte, dataOf, bytesOf}
 use Rattle.frame.specs.Messages.{typeCommand, locationIn, readers, decode}
 use Rattle.fields.specs.Fields.{locationFault, channelAllowed, isBlind, fault}
 use Rattle.judging.specs.Reading.{frameRefusal, ownType, commandRefusal, commandRead, requestRead, reading}
 use Rattle.frame.specs.declared.bytes.Data.{Data}
 use Rattle.frame.specs.declared.identifiers.Address.{Address}
-use Rattle.types.specs.declared.types.Extent.{Extent}
+use Rattle.kinds.specs.declared.types.Extent.{Extent}
 use Rattle.frame.specs.declared.messages.Location.{Location}
 use Rattle.frame.specs.declared.messages.Command.{Command}
 use Rattle.frame.specs.declared.messages.Command.the-variants.{TypeLong, TypeShort}
@@ -30,7 +30,7 @@ use Rattle.frame.specs.declared.messages.Reading.{Reading}
 use Rattle.frame.specs.declared.messages.Reading.the-variants.{Read, Refused}
 use Rattle.laws.proofs.Keys.{every}
 use Rattle.judging.proofs.Judged.{command-held}
-use Rattle.types.proofs.Listed.{of-line, of-listed}
+use Rattle.kinds.proofs.Listed.{of-line, of-listed}
 use Rattle.places.specs.Places.{mostPlaces, places, ledPlace, firstCharacter, characterPlace, cellPlace}
 use Rattle.places.specs.Runs.{Run, noRun, telling, asking, buildTold, characters, namedBlind, blindState, someLeds, allLeds, Meaning, refuses, names, enters, meaningOf, meant, readAs}
 use Rattle.places.specs.Fitting.{endOf, Lies, in-build, in-leds, in-blinds, in-names, in-cells, LiesAs, RunsLie, FitsAs, RunsFit}

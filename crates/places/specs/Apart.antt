@@ -4,7 +4,7 @@ use Prim.Native.Nat.{ℕ, _+_, _-_, _*_, _<_}
 use mathlib.Core.Path.{_≡_}
 use mathlib.Core.Logic.{_↔_}
 use mathlib.Core.Bool.{true, cond}
-use Rattle.types.specs.Types.{extentOf, namesInMemory}
+use Rattle.kinds.specs.Types.{extentOf, namesInMemory}
 use Rattle.places.specs.Places.{places, yearPlace, weekPlace, ledPlace, blindPlace, within, nameLength, characterPlace, cellPlace}
 
 -- a thing that is told or not heard

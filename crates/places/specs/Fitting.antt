@@ -2,7 +2,7 @@
 use Prim.Native.Nat.{ℕ, _+_, _*_, _≤_}
 use mathlib.Core.List.{List}
 use lib.ListN.{length}
-use Rattle.types.specs.Types.{extentOf}
+use Rattle.kinds.specs.Types.{extentOf}
 use Rattle.judging.specs.Reading.{reading}
 use Rattle.places.specs.Places.{mostPlaces, places, weekPlace, ledPlace, blindPlace, nameLength, characterPlace, cellPlace}
 use Rattle.places.specs.Runs.{Run, Meaning, refuses, names, enters, readAs}

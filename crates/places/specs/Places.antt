@@ -3,7 +3,7 @@
 use Prim.Native.Nat.{ℕ, _+_, _-_, _*_}
 use mathlib.Core.Bool.{Bool, cond, _&&_}
 use lib.Dec.{leb, ltb}
-use Rattle.types.specs.Types.{extentOf, namesInMemory}
+use Rattle.kinds.specs.Types.{extentOf, namesInMemory}
 
 -- how many places there are, and the number that stands for no place
 abbrev pub places : ℕ

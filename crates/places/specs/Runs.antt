@@ -6,7 +6,7 @@ use mathlib.Core.List.{List, [], _∷_, map}
 use lib.Dec.{eqb}
 use lib.ListN.{replicate}
 use Rattle.laws.specs.Tab.{tab}
-use Rattle.types.specs.Types.{nameOf, blindOf, upBit}
+use Rattle.kinds.specs.Types.{nameOf, blindOf, upBit}
 use Rattle.frame.specs.Bytes.{dataOf, bytesOf}
 use Rattle.frame.specs.Messages.{decode}
 use Rattle.frame.specs.declared.messages.Glow.{Glow}

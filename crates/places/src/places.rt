@@ -1,16 +1,21 @@
 // The places of a module, one map for every type: build year, build week, LEDs, blinds, characters of names, cells. Where a type's names live in
 // its memory, a character and its cell are one place.
 use frame::Location;
+use kinds::VMB1BL;
+use kinds::VMB2BL;
+use kinds::VMB8IR;
+use kinds::blind_of;
+use kinds::extent_of;
+use kinds::names_in_memory;
+use kinds::up_bit;
 use laws::both;
 use laws::wide32;
-use types::blind_of;
-use types::extent_of;
-use types::names_in_memory;
-use types::up_bit;
 ghost use mathlib.Core.Path.{_≡_};
 ghost use mathlib.Core.Bool.{cond};
 ghost use Prim.Native.Nat.{_+_, _-_, _≤_};
-ghost use Rattle.places.specs.Places.{cellAsked, ledAsked, blindAsked, hasName, within, nowhere, firstCharacter, characterPlace, cellPlace};
+ghost use lib.Dec.{ltb};
+ghost use Rattle.kinds.specs.Types.{extentOf};
+ghost use Rattle.places.specs.Places.{ledAsked, blindAsked, hasName, within, nowhere, firstCharacter, characterPlace, cellPlace};
 ghost use Rattle.places.specs.Runs.{namedBlind, blindState};
 
 // How many places there are, and the number that stands for no place.
@@ -92,19 +97,29 @@ pub fn cell_place(kind: u8, location: Location) -> u32
     CELLS + location.0 as u32
 }
 
-// The place that is asked for, or nowhere.
-pub fn cell_asked(kind: u8, location: u32) -> usize
-    ensures { λ r. ⌜ r ≡ cellAsked kind location ⌝ }
+// How many cells the types have, all but one and that one.
+const MOST_CELLS: u32 = 256;
+
+const FEWER_CELLS: u32 = 128;
+
+// Whether a type has a cell at a location. Each type's count is compared where the type is known: it costs less than a count that is chosen first.
+pub fn has_cell(kind: u8, location: u32) -> bool
+    ensures { λ r. ⌜ r ≡ ltb location (extentOf kind .cells) ⌝ }
 {
-    let e = extent_of(wide32(kind));
-    if location < e.cells {
-        CELLS as usize + location as usize
-    } else {
-        NOWHERE
+    let number = wide32(kind);
+    if number == VMB1BL {
+        return location < FEWER_CELLS;
     }
+    if number == VMB2BL {
+        return location < MOST_CELLS;
+    }
+    if number == VMB8IR {
+        return location < MOST_CELLS;
+    }
+    false
 }
 
-// Of places that are counted from 1.
+// The place that is asked for, or nowhere, of places that are counted from 1.
 fn numbered(first: u32, n: u32, most: u32) -> usize
     ensures { λ r. ⌜ r ≡ cond (within n most) (first + (n - 1)) nowhere ⌝ }
 {

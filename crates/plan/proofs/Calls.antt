@@ -14,7 +14,7 @@ use Rattle.laws.specs.Refusals.{typeNotKnown, tooShort}
 use Rattle.laws.specs.Limits.{AllBytes}
 use Rattle.laws.specs.Tab.{tab}
 use Rattle.laws.proofs.Tab.{length-tab, getD-tab, tab-ext}
-use Rattle.types.specs.Types.{extentOf}
+use Rattle.kinds.specs.Types.{extentOf}
 use Rattle.shape.specs.declared.answers.Answer.the-variants.{Value, NotHeard, Refused}
 use Rattle.shape.specs.Limits.{room, notHeard}
 use Rattle.places.specs.Places.{places, cellPlace, cellAsked, cellRow}

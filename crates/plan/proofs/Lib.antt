@@ -1,4 +1,5 @@
 pub mod CellRow
 pub mod Turns
+pub mod Passing
 pub mod Replying
 pub mod Calls

@@ -5,7 +5,7 @@ use mathlib.Core.Logic.{_↔_}
 use mathlib.Core.List.{List, [], _∷_, _++_}
 use lib.ListN.{length, take, drop}
 use Rattle.laws.specs.Limits.{AllBytes}
-use Rattle.types.specs.Types.{cellsOf, lastStart}
+use Rattle.kinds.specs.Types.{cellsOf, lastStart}
 use Rattle.shape.specs.declared.answers.Answer.the-variants.{Value, NotHeard}
 use Rattle.shape.specs.Limits.{room}
 use Rattle.shape.specs.Layout.{size}

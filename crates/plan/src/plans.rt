@@ -2,6 +2,8 @@
 use crate::cells::least;
 use crate::cells::memory_at;
 use crate::cells::next_unknown;
+use crate::cells::number_at;
+use crate::cells::past_known;
 use laws::TOO_SHORT;
 use laws::TYPE_NOT_KNOWN;
 use questions::AddressAsked;
@@ -10,13 +12,14 @@ use questions::slot_asked;
 use reads::BLOCK;
 use reads::start_for;
 use shape::Answer;
+use shape::NOT_HEARD;
 use shape::ROOM;
 use shape::SIZE;
 ghost use mathlib.Core.Path.{_≡_};
 ghost use mathlib.Core.List.{_++_};
-ghost use Prim.Native.Nat.{_+_, _*_, _<_, _≤_};
+ghost use Prim.Native.Nat.{_+_, _*_, _/_, _%_, _<_, _≤_};
 ghost use lib.Dec.{leb};
-ghost use lib.ListN.{length, drop};
+ghost use lib.ListN.{length, drop, set};
 ghost use Rattle.shape.specs.Limits.{room};
 ghost use Rattle.shape.specs.Layout.{size};
 ghost use Rattle.questions.specs.Statements.{inBytes};
@@ -51,20 +54,37 @@ fn write_entries(picture: &[u8], at: usize, cells: usize, starts: &mut [u16]) ->
     count as u16
 }
 
-// The same as bytes, two for each start, low byte first.
+// A start as two bytes, low byte first.
+fn put_start(out: &mut [u8], count: usize, start: usize)
+    requires { ⌜ (2 * count + 2 ≤ length (now out)) × (start < 65536) ⌝ }
+    ensures { λ _. ⌜ now (out .exit) ≡ set (set (now (out .entry)) (2 * count) (start % 256)) (2 * count + 1) (start / 256) ⌝ }
+{
+    out[2 * count] = (start % 256) as u8;
+    out[2 * count + 1] = (start / 256) as u8;
+}
+
+// The same as bytes, two for each start, low byte first. Where a whole block of cells is left an unknown cell is itself the start, so that no start is
+// chosen there and no end tested again; for the cells after that there is at most one read.
 fn write_bytes(picture: &[u8], at: usize, cells: usize, out: &mut [u8]) -> u16
     requires { ⌜ (at + 2 * cells ≤ length (now picture)) × (cells < 65536) × (2 * leastReads (rowAt (now picture) at cells) ≤ length (now out)) ⌝ }
     ensures { λ r. ⌜ r ≡ leastReads (rowAt (now (picture .entry)) at cells) ⌝ }
     ensures { λ _. ⌜ now (out .exit) ≡ inBytes (planOf (rowAt (now (picture .entry)) at cells)) ++ drop (length (inBytes (planOf (rowAt (now (picture .entry)) at cells)))) (now (out .entry)) ⌝ }
 {
     let mut count: usize = 0;
-    let mut cell = next_unknown(picture, at, cells, 0);
-    while cell < cells {
-        let start = start_for(cells, cell);
-        out[2 * count] = (start % 256) as u8;
-        out[2 * count + 1] = (start / 256) as u8;
-        count += 1;
-        cell = next_unknown(picture, at, cells, start + BLOCK);
+    let mut cell: usize = 0;
+    while cell + BLOCK <= cells {
+        if number_at(picture, at + 2 * cell) == NOT_HEARD {
+            put_start(out, count, cell);
+            count += 1;
+            cell += BLOCK;
+        } else {
+            cell = past_known(picture, at, cells, cell);
+        }
+    }
+    let last = next_unknown(picture, at, cells, cell);
+    if last < cells {
+        put_start(out, count, start_for(cells, last));
+        return (count + 1) as u16;
     }
     count as u16
 }

@@ -3,7 +3,7 @@ use Prim.Native.Nat.{ℕ, _≤_}
 use native.Mathlib.Omega.{arith}
 use mathlib.Core.Path.{_≡_}
 use mathlib.Core.Bool.{true}
-use Rattle.types.specs.Types.{extentOf}
+use Rattle.kinds.specs.Types.{extentOf}
 use Rattle.places.specs.Places.{hasName}
 use Rattle.places.proofs.CodePlaces.{within-low, within-high}
 use Rattle.places.proofs.Fitting.{extents-small}

@@ -1,5 +1,6 @@
 pub mod Replying
 pub mod Extents
+pub mod Celling
 pub mod Filling
 pub mod Naming
 pub mod Counts

@@ -1,14 +1,16 @@
 // The question on a name of a module: its sixteen characters as a row of numbers, or the same row as bytes, and how many of them are heard.
 use crate::asking::AddressAsked;
+use crate::asking::number_at;
 use crate::asking::slot_asked;
-use crate::rows::fill_bytes;
 use crate::rows::fill_numbers;
+use copying::copy_few;
 use laws::NO_SUCH_PLACE;
 use laws::TOO_SHORT;
 use laws::TYPE_NOT_KNOWN;
 use places::character_place;
 use places::has_name;
 use shape::Answer;
+use shape::NOT_HEARD;
 use shape::ROOM;
 use shape::SIZE;
 use shape::kind_in;
@@ -16,24 +18,25 @@ use shape::place_at;
 ghost use mathlib.Core.Path.{_≡_};
 ghost use mathlib.Core.Bool.{true};
 ghost use Prim.Native.Nat.{_+_, _*_, _<_, _≤_};
-ghost use lib.ListN.{length};
+ghost use lib.ListN.{length, getD};
 ghost use Rattle.shape.specs.Limits.{room};
 ghost use Rattle.shape.specs.Layout.{size, placeAt};
 ghost use Rattle.places.specs.Places.{nameLength, hasName, nameRow};
 ghost use Rattle.shape.specs.Head.{kindIn};
 ghost use Rattle.questions.specs.Question.{name-row, name-bytes};
-ghost use Rattle.questions.specs.Fills.{heardAt, sumTo};
+ghost use Rattle.questions.specs.Fills.{filledTo, heardAt, sumTo};
 ghost use Rattle.questions.specs.Replies.{replyAs, reply};
 
 // How many characters a name has.
 const NAME_LENGTH: usize = places::NAME_LENGTH as usize;
 
-// 1 for a place that is told, else 0: its high byte says so.
+// 1 for a place that is told, else 0. The place is read as one number, so that the compiler counts several places at once.
 fn heard_at(picture: &[u8], at: usize) -> u16
     requires { ⌜ at + 2 ≤ length (now picture) ⌝ }
     ensures { λ r. ⌜ (r ≡ heardAt (now (picture .entry)) at) × (r ≤ 1) ⌝ }
 {
-    if picture[at + 1] == 0 { 1 } else { 0 }
+    let number = number_at(picture, at);
+    if number < NOT_HEARD { 1 } else { 0 }
 }
 
 // How many of sixteen places, the first of which is at `at`, are told.
@@ -97,6 +100,15 @@ pub fn name(picture: &[u8], address: AddressAsked, name: u32, row: &mut [u16]) -
     }
 }
 
+// n bytes from `at` on, to the beginning of a buffer.
+fn fill_few(s: &[u8], at: usize, n: usize, out: &mut [u8])
+    requires { ⌜ (at + n ≤ length (now s)) × (n ≤ length (now out)) ⌝ }
+    ensures { λ _. ⌜ now (out .exit) ≡ filledTo (λ j. getD (now (s .entry)) (at + j) 0) (now (out .entry)) n ⌝ }
+{
+    let end = at + n;
+    copy_few(out, &s[at..end]);
+}
+
 fn name_bytes_in(picture: &[u8], slot: u8, name: u32, out: &mut [u8]) -> Answer
     requires { ⌜ (size ≤ length (now picture)) × (slot < room) ⌝ }
     ensures { λ r. ⌜ r ≡ replyAs (now (picture .entry)) slot (kindIn (now (picture .entry)) slot) (name-bytes name) (now (out .entry)) .answer ⌝ }
@@ -108,7 +120,7 @@ fn name_bytes_in(picture: &[u8], slot: u8, name: u32, out: &mut [u8]) -> Answer
             return Answer::Refused(TOO_SHORT);
         }
         let at = name_at(picture, slot, name);
-        fill_bytes(picture, at, n, out);
+        fill_few(picture, at, n, out);
         return Answer::Value(heard_from(picture, at));
     }
     Answer::Refused(NO_SUCH_PLACE)

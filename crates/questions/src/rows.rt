@@ -5,6 +5,7 @@ use crate::asking::slot_asked;
 use copying::copy_front;
 use frame::Address;
 use frame::Location;
+use kinds::extent_of;
 use laws::TOO_SHORT;
 use laws::TYPE_NOT_KNOWN;
 use laws::wide32;
@@ -17,7 +18,6 @@ use shape::kind_in;
 use shape::place_at;
 use shape::put_at;
 use shape::slot_of;
-use types::extent_of;
 ghost use mathlib.Core.Path.{_≡_};
 ghost use Prim.Native.Nat.{_+_, _*_, _<_, _≤_};
 ghost use lib.ListN.{length, getD};
@@ -78,7 +78,7 @@ pub(crate) fn fill_numbers(picture: &[u8], at: usize, n: usize, out: &mut [u16])
 }
 
 // n bytes from `at` on, to the beginning of a buffer.
-pub(crate) fn fill_bytes(s: &[u8], at: usize, n: usize, out: &mut [u8])
+fn fill_bytes(s: &[u8], at: usize, n: usize, out: &mut [u8])
     requires { ⌜ (at + n ≤ length (now s)) × (n ≤ length (now out)) ⌝ }
     ensures { λ _. ⌜ now (out .exit) ≡ filledTo (λ j. getD (now (s .entry)) (at + j) 0) (now (out .entry)) n ⌝ }
 {

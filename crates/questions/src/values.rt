@@ -3,6 +3,7 @@ use crate::asking::AddressAsked;
 use crate::asking::LocationAsked;
 use crate::asking::answer_at;
 use crate::asking::slot_asked;
+use crate::rows::first_cell;
 use laws::NO_SUCH_PLACE;
 use laws::TOO_SHORT;
 use laws::TYPE_NOT_KNOWN;
@@ -11,7 +12,7 @@ use places::PLACES;
 use places::WEEK;
 use places::YEAR;
 use places::blind_asked;
-use places::cell_asked;
+use places::has_cell;
 use places::led_asked;
 use shape::Answer;
 use shape::ROOM;
@@ -28,6 +29,8 @@ ghost use lib.ListN.{length};
 ghost use Rattle.laws.specs.Refusals.{typeNotKnown};
 ghost use Rattle.shape.specs.Limits.{room};
 ghost use Rattle.shape.specs.Layout.{size};
+ghost use Rattle.shape.specs.Head.{kindIn};
+ghost use Rattle.places.specs.Places.{cellAsked};
 ghost use Rattle.questions.specs.Question.{type-of, build-year, build-week, cell, led, blind, refusing};
 ghost use Rattle.questions.specs.Replies.{keptAnswer, placeReply, reply};
 
@@ -97,6 +100,21 @@ pub fn build_week(picture: &[u8], address: AddressAsked) -> Answer
     number_in(picture, slot_asked(picture, address), WEEK as usize)
 }
 
+// A cell of the module in a slot: 12 where its type has none there. Every cell is a place, so that no place is tested.
+fn cell_in(picture: &[u8], slot: u8, location: u32) -> Answer
+    requires { ⌜ (size ≤ length (now picture)) × (slot < room) ⌝ }
+    ensures { λ r. ⌜ r ≡ placeReply (now (picture .entry)) slot (cellAsked (kindIn (now (picture .entry)) slot) location) [] .answer ⌝ }
+{
+    if has_cell(kind_in(picture, slot), location) {
+        answer_at(
+            picture,
+            place_at(slot, first_cell(picture, slot) + location),
+        )
+    } else {
+        Answer::Refused(NO_SUCH_PLACE)
+    }
+}
+
 pub fn cell(picture: &[u8], address: AddressAsked, location: LocationAsked) -> Answer
     ensures { λ r. ⌜ r ≡ reply (now (picture .entry)) (address .0) (cell (location .0)) [] .answer ⌝ }
 {
@@ -104,8 +122,11 @@ pub fn cell(picture: &[u8], address: AddressAsked, location: LocationAsked) -> A
         return Answer::Refused(TOO_SHORT);
     }
     let slot = slot_asked(picture, address);
-    let place = cell_asked(kind_in(picture, slot), location.0);
-    number_in(picture, slot, place)
+    if slot < ROOM {
+        cell_in(picture, slot, location.0)
+    } else {
+        Answer::Refused(TYPE_NOT_KNOWN)
+    }
 }
 
 // LEDs count from 1.

@@ -11,8 +11,8 @@ use lib.Seq.{drop-drop, drop-append-seam, take-append-seam, length-take-le, drop
 use lib.Dec.{leb}
 use borrow.Author.Tests.{lt-ltb, le-leb, leb-true}
 use Rattle.laws.proofs.Stores.{drop-after}
-use Rattle.groups.specs.declared.reads.Found.{Found}
-use Rattle.groups.specs.declared.reads.Found.the-variants.{Value}
+use Rattle.groups.specs.declared.scan.Found.{Found}
+use Rattle.groups.specs.declared.scan.Found.the-variants.{Value}
 use Rattle.recording.specs.declared.records.Entry.{Entry}
 use Rattle.recording.specs.declared.records.Entry.the-variants.{Record, End, Broken}
 use Rattle.recorder.specs.declared.writes.Put.{Put}

@@ -1,6 +1,7 @@
 -- Laws of reading records.
 --     found               what follows a number, where what was read of it is known
 --     fits-at             a number that was read fits
+--     gap-taken           a gap that was read on the quick way
 --     headed, head-room   a record by its gap and its word, and the room after them
 --     counted             a record by its count
 --     entry-elim          what holds of every fault, and of a record whose data fit, holds of what is read
@@ -21,8 +22,8 @@ use lib.Dec.{ltb, leb}
 use borrow.Author.Tests.{leb-true, leb-false, le-leb, lt-ltb, le-ltb, ltb-false}
 use Rattle.laws.proofs.Choices.{cond-elim}
 use Rattle.laws.proofs.Testing.{not-both}
-use Rattle.groups.specs.declared.reads.Found.{Found}
-use Rattle.groups.specs.declared.reads.Found.the-variants.{Value, Ends, Bad}
+use Rattle.groups.specs.declared.scan.Found.{Found}
+use Rattle.groups.specs.declared.scan.Found.the-variants.{Value, Ends, Bad}
 use Rattle.recording.specs.declared.records.Entry.{Entry}
 use Rattle.recording.specs.declared.records.Entry.the-variants.{Record, End, Broken}
 use Rattle.laws.specs.Refusals.{cutOff, badNumber}
@@ -34,6 +35,7 @@ use Rattle.recording.specs.Window.{settled}
 use Rattle.groups.proofs.Reading.{different, Fits, number-last, value-at, bad-at, ends-at}
 use Rattle.numbers.specs.Statements.{isBad}
 use Rattle.numbers.proofs.Spelling.{more-is-allowed}
+use Rattle.numbers.proofs.Standing.{Stands, stood}
 use Rattle.recording.proofs.Ranges.{in-range, gap-groups, word-groups, count-groups}
 
 pub found : (s : List ℕ) (at : ℕ) (rest : ℕ → ℕ → Entry) {read r n : Found} → read ≡ r → read ≡ n → after s at r rest ≡ after s at n rest
@@ -43,6 +45,14 @@ found s at rest e f = ap (λ (n : Found). after s at n rest) (sym e ∙ f)
 pub fits-at : (s : List ℕ) (at most left : ℕ) → groupsOf most ≡ left → {r : Found} (v groups : ℕ) → r ≡ numberAt s at most → r ≡ Value v groups → Fits left most at (length s) v groups
 fits-at s at most left e {r} v groups read is =
     subst (λ (n : ℕ). Fits n most at (length s) v groups) e (value-at (groupsOf most) most at s r v groups read is)
+
+-- a gap of `groups` groups on the quick way, where it found any
+pub gap-taken : (s : List ℕ) (at value groups last : ℕ) {next v n : ℕ} → (value ≤ mostGap) × (next - at ≡ groups) → (0 < n → (v ≡ value) × (n ≡ next) × (0 < last))
+    → (0 < last → Stands s at value groups) → 0 < n → Value v (n - at) ≡ numberAt s at mostGap
+gap-taken s at value groups last {next} {v} {n} fits says stands some =
+    let w = says some in
+    let count : n - at ≡ groups = ap (λ (m : ℕ). m - at) (w .1) ∙ fits .1 in
+    (λ i. Value (w .0 i) (count i)) ∙ stood s at mostGap value groups (omega arith) (fits .0) (stands (w .2))
 
 -- where the gap and the word were read, the record is what its count gives, and after them there is room where the longest record has room
 module _ (s : List ℕ) (at gap word p next : ℕ) (first : Value gap (p - at) ≡ numberAt s at mostGap) (second : Value word (next - p) ≡ numberAt s p mostWord) where

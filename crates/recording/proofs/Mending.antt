@@ -13,8 +13,8 @@ use lib.Dec.{ltb}
 use borrow.Author.Tests.{lt-ltb, le-leb, ltb-true}
 use Rattle.laws.specs.Limits.{AllBytes}
 use Rattle.laws.proofs.Testing.{not-both}
-use Rattle.groups.specs.declared.reads.Found.{Found}
-use Rattle.groups.specs.declared.reads.Found.the-variants.{Value, Ends, Bad}
+use Rattle.groups.specs.declared.scan.Found.{Found}
+use Rattle.groups.specs.declared.scan.Found.the-variants.{Value, Ends, Bad}
 use Rattle.recording.specs.declared.records.Entry.{Entry}
 use Rattle.recording.specs.declared.records.Entry.the-variants.{End}
 use Rattle.recording.specs.Limits.{mostGap, mostWord, mostCount, longest}

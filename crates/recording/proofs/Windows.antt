@@ -12,8 +12,8 @@ use lib.Seq.{drop-append-add}
 use lib.Dec.{ltb, leb}
 use borrow.Author.Tests.{lt-ltb, le-leb, ltb-true, leb-true}
 use Rattle.laws.proofs.Choices.{same-test}
-use Rattle.groups.specs.declared.reads.Found.{Found}
-use Rattle.groups.specs.declared.reads.Found.the-variants.{Value, Ends, Bad}
+use Rattle.groups.specs.declared.scan.Found.{Found}
+use Rattle.groups.specs.declared.scan.Found.the-variants.{Value, Ends, Bad}
 use Rattle.recording.specs.declared.records.Entry.{Entry}
 use Rattle.recording.specs.declared.records.Entry.the-variants.{Record, End}
 use Rattle.recording.specs.Limits.{mostGap, mostWord, mostCount}

@@ -4,8 +4,8 @@ use mathlib.Core.List.{List}
 use mathlib.Core.Bool.{cond}
 use lib.Dec.{ltb, leb}
 use lib.ListN.{length}
-use Rattle.groups.specs.declared.reads.Found.{Found}
-use Rattle.groups.specs.declared.reads.Found.the-variants.{Value, Ends, Bad}
+use Rattle.groups.specs.declared.scan.Found.{Found}
+use Rattle.groups.specs.declared.scan.Found.the-variants.{Value, Ends, Bad}
 use Rattle.recording.specs.declared.records.Entry.{Entry}
 use Rattle.recording.specs.declared.records.Entry.the-variants.{Record, End, Broken}
 use Rattle.laws.specs.Refusals.{cutOff, badNumber}

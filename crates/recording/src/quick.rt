@@ -1,20 +1,14 @@
-// The quick way to a record: where the longest record has room no end needs a test, and nearly every gap and word has one group or two. A gap
-// of more groups is read by itself. In any doubt the way is not taken, and the general way judges from the record's first byte on.
-use crate::limits::LONGEST;
-use crate::limits::MOST_GAP;
+// The quick way to a record: where the longest record has room no end needs a test, and a gap is read in place, of however many groups.
+// In any doubt the way is not taken, and the general way judges from the record's first byte on.
 use crate::limits::MOST_WORD;
-use groups::Found;
-use numbers::number;
+use groups::wide;
 ghost use mathlib.Core.Path.{_≡_};
 ghost use Prim.Native.Nat.{_+_, _-_, _/_, _%_, _<_, _≤_};
-ghost use lib.ListN.{length};
-ghost use Rattle.groups.specs.declared.reads.Found.the-variants.{Value};
-ghost use Rattle.recording.specs.Limits.{mostGap, mostCount, countGroups};
+ghost use lib.ListN.{length, getD};
+ghost use Rattle.groups.specs.declared.scan.Found.the-variants.{Value};
+ghost use Rattle.recording.specs.Limits.{mostGap, mostCount, countGroups, longest};
 ghost use Rattle.groups.specs.Number.{numberAt};
 ghost use Rattle.recording.specs.Record.{readCount, readRecord};
-
-// The greatest number of two groups.
-const MOST_SHORT: u32 = 16383;
 
 // A number of one group or two, and the offset past it: 0 where there is no such number.
 struct Short {
@@ -86,44 +80,65 @@ fn short_number(s: &[u8], at: usize, most: u32) -> Short
     }
 }
 
-// The gap at `at`, by the reader of any number of groups.
-fn long_gap(s: &[u8], at: usize) -> Gap
-    ensures { λ r. ⌜ (0 < r .next → Value (r .value) (r .next - at) ≡ numberAt (now (s .entry)) at mostGap) ⌝ }
+// The gap that ends before `next` and whose last group is `last`, where that is the shortest form.
+fn shortest(value: u64, last: u64, next: usize) -> Gap
+    ensures { λ r. ⌜ (0 < r .next → (r .value ≡ value) × (r .next ≡ next) × (0 < last)) ⌝ }
 {
-    match number(s, at, MOST_GAP) {
-        Found::Value(value, groups) => Gap {
-            value,
-            next: at + groups,
-        },
-        Found::Ends => no_gap(),
-        Found::Bad(_) => no_gap(),
+    if last == 0 {
+        return no_gap();
     }
+    Gap { value, next }
 }
 
-// The gap at `at`: one group or two are read here, for nearly every gap is such.
-fn quick_gap(s: &[u8], at: usize) -> Gap
-    requires { ⌜ at + 1 < length (now s) ⌝ }
+// The gap at `at`, where it has three groups to five: its first two bytes are a and b.
+fn long_gap(s: &[u8], at: usize, a: u64, b: u64) -> Gap
+    requires { ⌜ at + 5 ≤ length (now s) ⌝ }
+    requires { ⌜ (a ≡ getD (now s) at 0) × (128 ≤ a) × (a < 256) ⌝ }
+    requires { ⌜ (b ≡ getD (now s) (at + 1) 0) × (128 ≤ b) × (b < 256) ⌝ }
     ensures { λ r. ⌜ (0 < r .next → Value (r .value) (r .next - at) ≡ numberAt (now (s .entry)) at mostGap) ⌝ }
 {
-    let short = short_number(s, at, MOST_SHORT);
-    if short.next == 0 {
-        return long_gap(s, at);
+    let two = a - 128 + 128 * (b - 128);
+    let c = wide(s[at + 2]);
+    if c < 128 {
+        return shortest(two + 16384 * c, c, at + 3);
     }
-    Gap {
-        value: short.value as u64,
-        next: short.next,
+    let three = two + 16384 * (c - 128);
+    let d = wide(s[at + 3]);
+    if d < 128 {
+        return shortest(three + 2097152 * d, d, at + 4);
     }
+    let e = wide(s[at + 4]);
+    if e < 128 {
+        return shortest(three + 2097152 * (d - 128) + 268435456 * e, e, at + 5);
+    }
+    no_gap()
+}
+
+// The gap at `at`.
+fn quick_gap(s: &[u8], at: usize) -> Gap
+    requires { ⌜ at + 5 ≤ length (now s) ⌝ }
+    ensures { λ r. ⌜ (0 < r .next → Value (r .value) (r .next - at) ≡ numberAt (now (s .entry)) at mostGap) ⌝ }
+{
+    let first = wide(s[at]);
+    if first < 128 {
+        return Gap {
+            value: first,
+            next: at + 1,
+        };
+    }
+    let second = wide(s[at + 1]);
+    if second < 128 {
+        return shortest(first - 128 + 128 * second, second, at + 2);
+    }
+    long_gap(s, at, first, second)
 }
 
 // The gap and the word of the record at `at`.
 pub(crate) fn quick_head(s: &[u8], at: usize) -> Head
-    requires { ⌜ at < length (now s) ⌝ }
+    requires { ⌜ at + longest ≤ length (now s) ⌝ }
     ensures { λ r. ⌜ (0 < r .next → r .next + (countGroups + mostCount) ≤ length (now (s .entry))) ⌝ }
     ensures { λ r. ⌜ (0 < r .next → readCount (now (s .entry)) (r .gap) (r .word / 2) (r .word % 2) (r .next) ≡ readRecord (now (s .entry)) at) ⌝ }
 {
-    if s.len() - at < LONGEST {
-        return no_head();
-    }
     let gap = quick_gap(s, at);
     if gap.next == 0 {
         return no_head();

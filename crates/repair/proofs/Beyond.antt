@@ -15,12 +15,12 @@ use Rattle.laws.specs.Tests.{among, unless, unlessRefused}
 use Rattle.laws.specs.Answers.{refusalIn}
 use Rattle.laws.proofs.Testing.{not-both}
 use Rattle.frame.specs.Identifiers.{identifierOf}
-use Rattle.types.specs.Types.{moduleTypes, rowFor, lastCell, lastStart}
+use Rattle.kinds.specs.Types.{moduleTypes, rowFor, lastCell, lastStart}
 use Rattle.frame.specs.Bytes.{byte, dataOf}
 use Rattle.frame.specs.Messages.{locationOf, timeOf, typeCommand, decode}
 use Rattle.fields.specs.Fields.{locationFault, timeAllowed, timedFault, isBlind, fault, fieldRefusal}
 use Rattle.judging.specs.Reading.{ownType, reading, readingNumber}
-use Rattle.types.proofs.Listed.{listed-module, module-some, module-handed}
+use Rattle.kinds.proofs.Listed.{listed-module, module-some, module-handed}
 use Rattle.codec.specs.Encoding.{highOf, lowOf, secondsOf, encode}
 use Rattle.codec.specs.Statements.{OfRow}
 use Rattle.codec.specs.Writing.{handedRefusal, typeFits, writeRefusal, commandFrame, writing, commandWritten, writtenAs, writingNumbers}

@@ -17,14 +17,14 @@ use Rattle.laws.specs.Limits.{AllBytes}
 use Rattle.laws.specs.Tests.{among, unless, firstFor}
 use Rattle.laws.proofs.Keys.{below}
 use Rattle.laws.proofs.Testing.{_&_, AllOf, not-both, among-each, same, same-is}
-use Rattle.types.specs.Types.{vmb1bl, vmb8ir, vmb2bl, twoBlindChannels, moduleTypes, positionIn, blindOf, Entry, lineOf, rowsOf, find, rowFor, isListed}
+use Rattle.kinds.specs.Types.{vmb1bl, vmb8ir, vmb2bl, twoBlindChannels, moduleTypes, positionIn, blindOf, Entry, lineOf, rowsOf, find, rowFor, isListed}
 use Rattle.frame.specs.Bytes.{byte}
-use Rattle.types.specs.Bits.{oneBit}
+use Rattle.kinds.specs.Bits.{oneBit}
 use Rattle.frame.specs.Messages.{Reader, readers, unlisted, locationIn, timeOf, permanent, typeCommand}
 use Rattle.fields.specs.Fields.{locationFault, timeAllowed, buttonsAllowed, unions, askedAllowed, blindStates, fault}
 use Rattle.frame.specs.declared.messages.Time.the-variants.{DipSwitch, Permanently, Seconds}
 use Rattle.frame.specs.declared.messages.Command.{Command}
-use Rattle.types.proofs.Listed.{of-listed, listed-module}
+use Rattle.kinds.proofs.Listed.{of-listed, listed-module}
 use Rattle.fields.proofs.Unions.{tested, union-tested}
 use Rattle.repair.specs.Allowed.{lines, linesFor, blind, blinds, together2}
 use Rattle.repair.proofs.Mending.{firstUnmet, rising, Leaves, leaving, Each, end, _▸_}

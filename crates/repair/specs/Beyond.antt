@@ -9,7 +9,7 @@ use Rattle.laws.specs.Refusals.{badField, codeAt}
 use Rattle.laws.specs.Tests.{unless}
 use Rattle.laws.specs.Answers.{refusalIn}
 use Rattle.frame.specs.Identifiers.{identifierOf}
-use Rattle.types.specs.Types.{rowFor}
+use Rattle.kinds.specs.Types.{rowFor}
 use Rattle.frame.specs.Bytes.{byte}
 use Rattle.fields.specs.Fields.{timeAllowed}
 use Rattle.judging.specs.Reading.{reading, readingNumber}

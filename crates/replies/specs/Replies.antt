@@ -2,7 +2,7 @@
 use Prim.Native.Nat.{ℕ, zero, suc, _+_, _-_, _*_}
 use mathlib.Core.List.{List, [], _∷_}
 use lib.ListN.{getD}
-use Rattle.types.specs.Types.{vmb8ir, nameOf}
+use Rattle.kinds.specs.Types.{vmb8ir, nameOf}
 use Rattle.frame.specs.declared.messages.Glow.the-variants.{On, Slow, Fast, VeryFast}
 use Rattle.frame.specs.declared.messages.Command.{Command}
 use Rattle.frame.specs.declared.messages.Command.the-variants.{TypeLong, TypeShort, Buttons, CellTold, BlockTold, CellAsked, BlockAsked, DumpAsked, CellSet, BlockSet, Errors, ErrorsAsked, NameOne, NameTwo, NameThree, NameAsked, StatusAsked, InputStatus, LedsAll, Leds, BlindStatus, BlindStop, BlindUp, BlindDown}

@@ -1,9 +1,9 @@
 // The bytes of a bench: one for each place, then its address and its map version.
 use frame::Location;
+use kinds::VMB8IR;
 use laws::byte_at;
 use places::PLACES;
 use places::cell_place;
-use types::VMB8IR;
 ghost use mathlib.Core.Path.{_≡_};
 ghost use Prim.Native.Nat.{_+_, _≤_};
 ghost use Rattle.replies.specs.Bench.{cell};

@@ -4,7 +4,7 @@ use mathlib.Core.Bool.{Bool, cond, _&&_}
 use mathlib.Core.List.{List}
 use lib.Dec.{eqb, ltb}
 use lib.ListN.{length, getD}
-use Rattle.types.specs.Types.{noType}
+use Rattle.kinds.specs.Types.{noType}
 use Rattle.shape.specs.Limits.{room, ring}
 use Rattle.shape.specs.Layout.{countAt, keptAt, nextAt, depthAt, slotAt, recordAt, kindAt, size}
 

@@ -18,7 +18,7 @@ ghost use Rattle.shape.specs.Head.{modulesOf, keptOf, nextOf, depthOf, b
 // The slot of no module, and the type of no module.
 pub const NO_SLOT: u8 = ROOM;
 
-const NO_TYPE: u8 = types::NO_TYPE as u8;
+const NO_TYPE: u8 = kinds::NO_TYPE as u8;
 
 pub fn modules_of(picture: &[u8]) -> u8
     ensures { λ r. ⌜ r ≡ modulesOf (now (picture .entry)) ⌝ }

@@ -10,7 +10,7 @@ use lib.Seq.{getD-set-other}
 use borrow.Author.Tests.{eqb-true, eqb-false, eq-eqb, ne-eqb, lt-ltb, le-ltb, ltb-true, ltb-false, le-leb}
 use Rattle.laws.specs.Limits.{AllBytes}
 use Rattle.laws.specs.Refusals.{typeNotKnown, tooShort}
-use Rattle.types.specs.Types.{extentOf}
+use Rattle.kinds.specs.Types.{extentOf}
 use Rattle.shape.specs.Limits.{room, notHeard}
 use Rattle.places.specs.Places.{places, nowhere, cellPlace, cellAsked, cellRow}
 use Rattle.shape.specs.Layout.{placeAt}

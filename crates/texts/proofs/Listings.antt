@@ -16,7 +16,7 @@ use borrow.Author.Tests.{leb-true, leb-false}
 use Rattle.laws.proofs.Choices.{cond-elim}
 use Rattle.shape.specs.declared.answers.Answer.{Answer}
 use Rattle.shape.specs.declared.answers.Answer.the-variants.{Value, NotHeard, Refused}
-use Rattle.types.specs.Types.{extentOf}
+use Rattle.kinds.specs.Types.{extentOf}
 use Rattle.shape.specs.Limits.{addresses}
 use Rattle.places.specs.Places.{nameLength}
 use Rattle.questions.specs.Question.{type-of, name-row}

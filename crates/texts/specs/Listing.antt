@@ -10,7 +10,7 @@ use Rattle.shape.specs.declared.answers.Answer.the-variants.{Value, NotHeard, R
 use Rattle.questions.specs.Question.{type-of}
 use Rattle.questions.specs.Replies.{reply}
 use Rattle.shape.specs.Limits.{addresses}
-use Rattle.types.specs.Types.{extentOf}
+use Rattle.kinds.specs.Types.{extentOf}
 use Rattle.recorder.specs.declared.writes.Put.{Put}
 use Rattle.recorder.specs.declared.writes.Put.the-variants as put
 use Rattle.replay.specs.declared.window.Stream.{Stream}

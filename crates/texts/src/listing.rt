@@ -32,7 +32,7 @@ fn put_sheet(picture: &[u8], out: &mut [u8], at: usize, address: u32, kind: u8) 
     requires { ⌜ Fits (now out) at (sheetText (now picture) address kind) ⌝ }
     ensures { λ r. ⌜ Written (now (out .entry)) at (sheetText (now (picture .entry)) address kind) (now (out .exit)) r ⌝ }
 {
-    let extent = types::extent_of(wide32(kind));
+    let extent = kinds::extent_of(wide32(kind));
     let names = whole_names(picture, address, extent.names);
     let cells = told_cells(picture, address, extent.cells);
     put_module_line(out, at, (address % 256) as u8, kind, names, cells)

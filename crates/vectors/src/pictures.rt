@@ -4,13 +4,13 @@ use crate::answers::answer;
 use crate::rows::NO_CALL;
 use crate::text::part;
 use crate::words::Reader;
+use kinds::VMB1BL;
+use kinds::VMB2BL;
+use kinds::VMB8IR;
 use questions::AddressAsked;
 use questions::LocationAsked;
 use shape::Answer;
 use shape::Outcome;
-use types::VMB1BL;
-use types::VMB2BL;
-use types::VMB8IR;
 
 fn refusal(o: Outcome) -> u16 {
     match o {

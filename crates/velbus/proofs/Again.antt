@@ -13,14 +13,14 @@ use Rattle.laws.specs.Copies.{copiedIn}
 use Rattle.laws.proofs.Testing.{held, and-both, or-right}
 use Rattle.laws.proofs.Stores.{sets-front}
 use Rattle.laws.proofs.Copying.{copied-all}
-use Rattle.types.specs.Types.{longType, shortType, noRow, rowFor}
+use Rattle.kinds.specs.Types.{longType, shortType, noRow, rowFor}
 use Rattle.frame.specs.Bytes.{dataOf}
 use Rattle.frame.specs.Messages.{typeCommand}
 use Rattle.codec.specs.Encoding.{encode}
 use Rattle.fields.specs.Fields.{isBlind, timeAllowed, timedFault, fault}
 use Rattle.judging.specs.Reading.{ownType, reading}
 use Rattle.codec.specs.Writing.{typeFits, writing, frameSize, frameBytes}
-use Rattle.types.specs.declared.types.Row.{Row}
+use Rattle.kinds.specs.declared.types.Row.{Row}
 use Rattle.frame.specs.declared.identifiers.Address.{Address}
 use Rattle.frame.specs.declared.messages.Time.{Time}
 use Rattle.frame.specs.declared.messages.Time.the-variants.{DipSwitch, Permanently, Seconds}
@@ -30,7 +30,7 @@ use Rattle.frame.specs.declared.messages.Message.{Message}
 use Rattle.frame.specs.declared.messages.Message.the-variants.{TypeRequest, Tells}
 use Rattle.codec.specs.declared.writer.Frame.{Frame}
 use Rattle.codec.specs.declared.writer.Writing.the-variants.{Written}
-use Rattle.types.proofs.Listed.{everywhere, of-any}
+use Rattle.kinds.proofs.Listed.{everywhere, of-any}
 use Rattle.codec.proofs.Shapes.{cell-near, block-near}
 use Rattle.codec.proofs.RoundTrip.{read-then-written, written-then-read, written-lawful}
 use Rattle.layouts.specs.Parts.{timeSeconds, Numbered, longTypes, shortTypes, noMessage, numberIn, commandParts, partsOf}

@@ -1,13 +1,14 @@
 // The picture: hearing, stepping back and asking.
 use crate::words::answer_word;
 use crate::words::outcome_word;
+use crate::words::refused;
 use questions::AddressAsked;
 use questions::LocationAsked;
 ghost use mathlib.Core.Path.{_≡_};
 ghost use mathlib.Core.List.{[]};
 ghost use Rattle.shape.specs.Layout.{size};
 ghost use Rattle.picture.specs.Hearing.{hearing};
-ghost use Rattle.picture.specs.Stepping.{steppingBack};
+ghost use Rattle.changes.specs.Stepping.{steppingBack};
 ghost use Rattle.steering.specs.Fresh.{fresheningWith, freshening};
 ghost use Rattle.questions.specs.Question.{type-of, build-year, build-week, cell, led, blind, name-bytes, memory-bytes};
 ghost use Rattle.questions.specs.Replies.{keptAnswer, listing, reply};
@@ -41,7 +42,7 @@ pub extern "C" fn velbus_hear(picture: &mut [u8], identifier: u32, remote: u32, 
     ensures { λ r. ⌜ r ≡ outcomeWord (hearing (now (picture .entry)) identifier remote (now («data» .entry)) .outcome) ⌝ }
     ensures { λ _. ⌜ now (picture .exit) ≡ hearing (now (picture .entry)) identifier remote (now («data» .entry)) .buffer ⌝ }
 {
-    outcome_word(picture::hear(picture, identifier, remote, data))
+    refused(picture::hear_number(picture, identifier, remote, data))
 }
 
 #[no_mangle]

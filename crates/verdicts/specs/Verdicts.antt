@@ -5,7 +5,7 @@ use mathlib.Core.List.{List, [], _∷_}
 use lib.Dec.{eqb}
 use Rattle.laws.specs.Refusals.{badIdentifier, sid0Set, badForm, badPriority, notListed}
 use Rattle.laws.specs.Tests.{among}
-use Rattle.types.specs.Types.{vmb8ir}
+use Rattle.kinds.specs.Types.{vmb8ir}
 use Rattle.frame.specs.Bytes.{byte}
 use Rattle.judging.specs.Reading.{reading}
 use Rattle.frame.specs.declared.messages.Reading.{Reading}

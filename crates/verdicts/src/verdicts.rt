@@ -2,9 +2,9 @@
 use frame::Message;
 use frame::Reading;
 use frame::address_of;
+use kinds::VMB8IR;
 use laws::NOT_LISTED;
 use laws::byte_at;
-use types::VMB8IR;
 ghost use mathlib.Core.Path.{_≡_};
 ghost use mathlib.Core.Bool.{cond, _&&_};
 ghost use lib.Dec.{eqb};

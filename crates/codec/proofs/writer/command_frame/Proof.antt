@@ -1,6 +1,6 @@
 -- `codec::writer::command_frame` meets its contract.
 -- Assumes nothing.
-use Rattle.types.proofs.Listed.{row-priority}
+use Rattle.kinds.proofs.Listed.{row-priority}
 use borrow.Author.Needs.{needs}
 use Rattle.codec.proofs.writer.command_frame.Statement.{statement}
 use Rattle.codec.proofs.writer.command_frame.Tie as tie

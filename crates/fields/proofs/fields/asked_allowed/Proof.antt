@@ -1,7 +1,7 @@
 -- `fields::fields::asked_allowed` meets its contract.
 -- Assumes nothing.
 use native.Mathlib.Omega.{arith}
-use Rattle.types.specs.Types.{extentOf}
+use Rattle.kinds.specs.Types.{extentOf}
 use Rattle.fields.specs.Fields.{buttonsAllowed, askedAllowed}
 use Rattle.fields.proofs.Unions.{union-tested}
 use borrow.Author.Tests.{eq-eqb, ne-eqb}

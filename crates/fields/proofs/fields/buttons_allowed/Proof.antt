@@ -4,9 +4,9 @@ use Prim.Native.Nat.{ℕ, _/_, _%_, _<_}
 use mathlib.Core.Path.{_≡_, refl}
 use mathlib.Core.Bool.{_&&_}
 use lib.Dec.{eqb, ltb}
-use Rattle.types.proofs.Listed.{other-line}
-use Rattle.types.specs.Bits.{bits}
-use Rattle.types.specs.Types.{lineOf, channelsOf, blindChannels}
+use Rattle.kinds.proofs.Listed.{other-line}
+use Rattle.kinds.specs.Bits.{bits}
+use Rattle.kinds.specs.Types.{lineOf, channelsOf, blindChannels}
 use Rattle.fields.specs.Fields.{clearBits, buttonsAllowed}
 use Rattle.laws.proofs.Keys.{below}
 use Rattle.laws.proofs.Testing.{same, same-is}

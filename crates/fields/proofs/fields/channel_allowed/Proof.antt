@@ -1,7 +1,7 @@
 -- `fields::fields::channel_allowed` meets its contract.
 -- Assumes nothing.
-use Rattle.types.specs.Types.{extentOf, nameOf, channelsOf}
-use Rattle.types.proofs.Positions.{among-position}
+use Rattle.kinds.specs.Types.{extentOf, nameOf, channelsOf}
+use Rattle.kinds.proofs.Positions.{among-position}
 use borrow.Author.Needs.{needs}
 use Rattle.fields.proofs.fields.channel_allowed.Statement.{statement}
 use Rattle.fields.proofs.fields.channel_allowed.Tie as tie

@@ -1,6 +1,6 @@
 -- `fields::fields::of_blinds` meets its contract.
 -- Assumes nothing.
-use Rattle.types.specs.Types.{extentOf}
+use Rattle.kinds.specs.Types.{extentOf}
 use borrow.Author.Needs.{needs}
 use Rattle.fields.proofs.fields.of_blinds.Statement.{statement}
 use Rattle.fields.proofs.fields.of_blinds.Tie as tie

@@ -5,7 +5,7 @@ use mathlib.Core.Bool.{Bool, true, false, _||_, cond}
 use Prim.Native.Nat.{_*_}
 use lib.Dec.{eqb}
 use native.Mathlib.Omega.{arith}
-use Rattle.types.proofs.Positions.{up-small}
+use Rattle.kinds.proofs.Positions.{up-small}
 use borrow.Author.Needs.{needs}
 use Rattle.fields.proofs.fields.state_allowed.Statement.{statement}
 use Rattle.fields.proofs.fields.state_allowed.Tie as tie

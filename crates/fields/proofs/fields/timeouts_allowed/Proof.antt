@@ -1,7 +1,7 @@
 -- `fields::fields::timeouts_allowed` meets its contract.
 -- Assumes nothing.
-use Rattle.types.proofs.Listed.{other-line}
-use Rattle.types.specs.Types.{lineOf, blindsOf}
+use Rattle.kinds.proofs.Listed.{other-line}
+use Rattle.kinds.specs.Types.{lineOf, blindsOf}
 use Rattle.fields.proofs.fields.timeouts_allowed.Statement.{statement}
 use Rattle.fields.proofs.fields.timeouts_allowed.Tie as tie
 

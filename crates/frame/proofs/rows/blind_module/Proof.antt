@@ -1,7 +1,7 @@
 -- `frame::rows::blind_module` meets its contract.
 -- Assumes nothing.
 use Rattle.laws.proofs.Keys.{passed-over}
-use Rattle.types.specs.Types.{Entry, noRow, everyType, blindOnly}
+use Rattle.kinds.specs.Types.{Entry, noRow, everyType, blindOnly}
 use mathlib.Core.Path.{sym, _∙_}
 use borrow.Author.Needs.{needs}
 use Rattle.frame.proofs.rows.blind_module.Statement.{statement}

@@ -1,7 +1,7 @@
 -- `frame::rows::every_type` meets its contract.
 -- Assumes nothing.
 use Rattle.laws.proofs.Keys.{passed-over}
-use Rattle.types.specs.Types.{Entry, noRow, everyType}
+use Rattle.kinds.specs.Types.{Entry, noRow, everyType}
 use mathlib.Core.List.{[]}
 use mathlib.Core.Path.{sym}
 use Rattle.frame.proofs.rows.every_type.Statement.{statement}

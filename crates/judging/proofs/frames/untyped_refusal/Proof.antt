@@ -1,7 +1,7 @@
 -- `judging::frames::untyped_refusal` meets its contract.
 -- Assumes nothing.
 use mathlib.Core.Path.{refl, sym, _∙_}
-use Rattle.types.specs.Types.{noType}
+use Rattle.kinds.specs.Types.{noType}
 use Rattle.frame.specs.Bytes.{dataOf, bytesOf}
 use Rattle.frame.specs.Messages.{decode}
 use Rattle.judging.proofs.Faults.{of-no-type}

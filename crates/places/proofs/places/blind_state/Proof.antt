@@ -2,7 +2,7 @@
 use Prim.Native.Nat.{_-_}
 use native.Mathlib.Omega.{arith}
 use native.Mathlib.Nat.{one-le-pow}
-use Rattle.types.specs.Types.{blindOf}
+use Rattle.kinds.specs.Types.{blindOf}
 use borrow.Author.Needs.{needs}
 use Rattle.places.proofs.places.blind_state.Statement.{statement}
 use Rattle.places.proofs.places.blind_state.Tie as tie

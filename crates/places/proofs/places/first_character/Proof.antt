@@ -3,7 +3,7 @@ use native.Mathlib.Omega.{arith}
 use mathlib.Core.Path.{_≡_, refl, sym, ap, _∙_}
 use mathlib.Core.Bool.{true, false}
 use borrow.Author.Needs.{needs}
-use Rattle.types.specs.Types.{namesInMemory}
+use Rattle.kinds.specs.Types.{namesInMemory}
 use Rattle.places.specs.Places.{firstCharacter}
 use Rattle.places.proofs.places.first_character.Statement.{statement}
 use Rattle.places.proofs.places.first_character.Tie as tie

@@ -24,7 +24,7 @@ returns-2 c =
     let has = long .before .before in
     let bytes : AllBytes (has .before .before .before .args .picture .now) = λ i. omega (arith, has .before .before .shared-slice-known .given i) in
     both-of
-    (bytes-done _ _ _ _ _ (sym (has .has-name-in .ensures) ∙ long .before .if1 .taken) (at .name-at .ensures .0) (c .heard-from .ensures) (omega arith) (long .if2 .left) bytes (filled .fill-bytes .ensures))
+    (bytes-done _ _ _ _ _ (sym (has .has-name-in .ensures) ∙ long .before .if1 .taken) (at .name-at .ensures .0) (c .heard-from .ensures) (omega arith) (long .if2 .left) bytes (filled .fill-few .ensures))
 
 returns-3 : tie.Need-returns-3
 returns-3 c = both-of (no-bytes _ _ _ _ _ (sym (c .before .has-name-in .ensures) ∙ c .if1 .left))

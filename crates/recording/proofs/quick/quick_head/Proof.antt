@@ -12,15 +12,15 @@ use Rattle.recording.proofs.quick.quick_head.Tie as tie
 
 short-number-requires : tie.Need-short-number-requires
 short-number-requires c κs =
-    let a = c .before .before .before .before .before .args in
+    let a = c .before .before .before .before .args in
     let g = c .before .before .quick-gap .result in
     let fits = fits-at (a .s .now) (a .at) mostGap gapGroups gap-groups (g .value) (g .next - a .at) (c .before .before .quick-gap .ensures (omega arith)) refl in
     (omega arith, omega arith)
 
-returns-3 : tie.Need-returns-3
-returns-3 c =
+returns-2 : tie.Need-returns-2
+returns-2 c =
     let n = c .before in
-    let a = n .before .before .before .before .before .args in
+    let a = n .before .before .before .before .args in
     let g = n .before .before .quick-gap .result in
     let gap = n .before .before .quick-gap .ensures (omega arith) in
     let w = c .short-number in
@@ -33,12 +33,9 @@ pub quick-head-spec : {M : Type 1} → statement M
 quick-head-spec =
     tie.close
     (tie.spec
-    (λ c. search needs)
+    (λ c κs. search needs)
     (λ c κs. search needs)
     (λ c. (nothing-found (c .no-head .ensures), nothing-found (c .no-head .ensures)))
-    (λ c κs. search needs)
-    (λ c κs. search needs)
-    (λ c. (nothing-found (c .no-head2 .ensures), nothing-found (c .no-head2 .ensures)))
     (λ c. search needs)
     short-number-requires
-    returns-3)
+    returns-2)

@@ -4,7 +4,7 @@ use mathlib.Core.Path.{refl, ap, _∙_}
 use native.Mathlib.Omega.{arith}
 use borrow.Author.Needs.{needs}
 use lib.ListN.{getD}
-use Rattle.groups.specs.declared.reads.Found.the-variants.{Value}
+use Rattle.groups.specs.declared.scan.Found.the-variants.{Value}
 use Rattle.numbers.proofs.Standing.{stands-last, stands-more, stood, nothing-found}
 use Rattle.recording.proofs.quick.short_number.Statement.{statement}
 use Rattle.recording.proofs.quick.short_number.Tie as tie

@@ -3,17 +3,18 @@ use Prim.Native.Nat.{_+_, _/_, _%_, _≤_}
 use mathlib.Core.Path.{sym, refl, _∙_}
 use native.Mathlib.Omega.{arith}
 use borrow.Author.Needs.{needs}
+use borrow.Author.Tests.{leb-true}
 use lib.ListN.{length, getD}
-use Rattle.recording.specs.Limits.{mostCount, countGroups}
-use Rattle.recording.proofs.Entries.{past-end, counted}
+use Rattle.recording.specs.Limits.{mostCount, countGroups, longest}
+use Rattle.recording.proofs.Entries.{counted}
 use Rattle.recording.proofs.records.read_record.Statement.{statement}
 use Rattle.recording.proofs.records.read_record.Tie as tie
 
-returns : tie.Need-returns
-returns c = let a = c .before .before .args in sym (past-end (a .s .now) (a .at) (omega arith))
+quick-head-requires : tie.Need-quick-head-requires
+quick-head-requires c κs = let a = c .before .before .before .args in leb-true (a .at + longest) (length (a .s .now)) (sym (c .before .has-room .ensures) ∙ c .if1 .taken)
 
 -- where the way is quick, the count and the data have room
-room : (n : tie.Then2) → n .before .quick-head .result .next + (countGroups + mostCount) ≤ length (n .before .before .before .before .args .s .now)
+room : (n : tie.Then2) → n .before .quick-head .result .next + (countGroups + mostCount) ≤ length (n .before .before .before .before .before .args .s .now)
 room n = n .before .quick-head .ensures .0 (omega arith)
 
 shared-slice-read-len : tie.Need-shared-slice-read-len
@@ -28,10 +29,10 @@ add-start c = omega (arith, room (c .before .before))
 add-next : tie.Need-add-next
 add-next c = omega (arith, room (c .before .before))
 
-returns-2 : tie.Need-returns-2
-returns-2 c =
+returns : tie.Need-returns
+returns c =
     let n = c .before .before .before .before in
-    let s = n .before .before .before .before .args .s .now in
+    let s = n .before .before .before .before .before .args .s .now in
     let q = n .before .quick-head in
     let h = q .result in
     counted s (h .gap) (h .word / 2) (h .word % 2) (h .next) (getD s (h .next) 0) (room n) refl (omega arith) ∙ q .ensures .1 (omega arith)
@@ -40,12 +41,12 @@ pub read-record-spec : {M : Type 1} → statement M
 read-record-spec =
     tie.close
     (tie.spec
-    returns
     (λ c κs. search needs)
+    quick-head-requires
     shared-slice-read-len
     cast-len
     add-start
     add-next
-    returns-2
+    returns
     (λ c κs. search needs)
     (λ c. search needs))

@@ -3,7 +3,7 @@ use Prim.Native.Nat.{ℕ, _%_}
 use mathlib.Core.Path.{_≡_, ap, sym, subst, _∙_}
 use mathlib.Core.List.{List}
 use borrow.Author.Needs.{needs}
-use Rattle.types.specs.declared.types.Extent.{Extent}
+use Rattle.kinds.specs.declared.types.Extent.{Extent}
 use Rattle.places.proofs.Fitting.{extents-small}
 use Rattle.texts.specs.Text.{Fits, Written}
 use Rattle.texts.specs.Lines.{moduleLine}

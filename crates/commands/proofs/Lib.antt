@@ -1,0 +1,4 @@
+pub mod Rows
+pub mod Arms
+pub mod Families
+pub mod Dispatch
