@@ -1,17 +1,16 @@
 -- Places told, on the picture's bytes. Assumes nothing.
-use Prim.Native.Nat.{ℕ, _+_}
+use Prim.Native.Nat.{ℕ}
 use mathlib.Core.Bool.{Bool, true, false, cond, not, _&&_}
 use mathlib.Core.List.{List, [], _∷_}
-use lib.Dec.{leb, ltb}
+use lib.Dec.{ltb}
 use lib.ListN.{length}
-use Rattle.places.specs.Places.{places}
 use Rattle.places.specs.Runs.{Saying, Run}
 use Rattle.shape.specs.Limits.{room}
-use Rattle.shape.specs.Layout.{placeAt, size}
+use Rattle.shape.specs.Layout.{placeAt}
 use Rattle.shape.specs.Head.{short}
 use Rattle.steering.specs.Steps.{stepped}
-use Rattle.changes.specs.Stores.{written}
-use Rattle.changes.specs.Log.{didNothing, noted, saved}
+use Rattle.stores.specs.Stores.{written}
+use Rattle.stores.specs.Log.{didNothing, noted, saved, liesIn}
 
 -- a run heard by the module in slot s
 unfoldable pub toldBytes : List ℕ → ℕ → Run → List ℕ
@@ -28,10 +27,6 @@ isEmpty (x ∷ xs) = false
 
 unfoldable pub naming : List ℕ → ℕ → Run → List ℕ
 naming b s r = cond (ltb s room && not (isEmpty (r .says))) (toldBytes b s r) (sameBytes b)
-
--- n places from `start` on lie in the record of slot s, in a picture of so many bytes
-abbrev pub liesIn : ℕ → ℕ → ℕ → ℕ → Bool
-liesIn bytes s start n = leb size bytes && (ltb s room && leb (start + n) places)
 
 -- a run told where it lies in a record; else nothing is done
 unfoldable pub toldIn : List ℕ → ℕ → Run → List ℕ

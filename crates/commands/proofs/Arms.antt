@@ -28,7 +28,7 @@ use Rattle.places.specs.Runs.{Run, noRun, runIn, meaningOf}
 use Rattle.shape.specs.Limits.{room}
 use Rattle.shape.specs.Layout.{size}
 use Rattle.changes.specs.Telling.{isEmpty, naming, toldIn, passedIn}
-use Rattle.changes.proofs.Within.{told-in}
+use Rattle.changes.proofs.Told.{told-in}
 use Rattle.commands.specs.Commands.{namedBy, commandNumber, commandBytes}
 use Rattle.commands.specs.Arms.{Ready, Heard}
 use Rattle.commands.proofs.Rows.{Rowed, row-of, row-none}

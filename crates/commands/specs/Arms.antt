@@ -1,4 +1,5 @@
--- What the arms are called with and what they ensure, for the code that goes by the command's number. Assumes nothing.
+-- A STEP OF A PROOF, which no promise cites: what the arms are called with and what they ensure, for the code that goes by the command's number.
+-- Assumes nothing.
 use Prim.Native.Nat.{ℕ, _<_, _≤_}
 use mathlib.Core.Path.{_≡_}
 use mathlib.Core.Bool.{true}

@@ -33,7 +33,7 @@ use Rattle.recording.proofs.Mending.{cut-can-be-mended}
 use Rattle.recording.proofs.Windows.{window-settles}
 use Rattle.layouts.specs.declared.parts.Held.{Held}
 use Rattle.layouts.specs.declared.parts.Held.the-variants.{Holds, Nothing}
-use Rattle.velbus.specs.Words.{values, refusedWord, word, roomWord, outcomeWord, answerWord}
+use Rattle.results.specs.Words.{values, refusedWord, word, roomWord, outcomeWord, answerWord}
 use Rattle.velbus.specs.Recordings.{putWord}
 use Rattle.layouts.specs.Parts.{partsOf}
 use Rattle.layouts.specs.Layout.{messageSize, laidBytes, heldIn}

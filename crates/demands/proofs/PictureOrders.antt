@@ -19,9 +19,9 @@ use Rattle.places.specs.Runs.{Run, meaningOf, meant, readAs, commandOf}
 use Rattle.shape.specs.Result.{Result, refusing, done}
 use Rattle.shape.specs.Head.{short, modulesOf, keptOf, kindIn}
 use Rattle.changes.specs.Telling.{naming}
-use Rattle.changes.specs.Records.{exchangedBytes, enteredBytes}
+use Rattle.modules.specs.Records.{exchangedBytes, enteredBytes}
 use Rattle.picture.specs.Hearing.{entering, hearingAs, hearingAt, hearing}
-use Rattle.changes.specs.Stepping.{steppingBack}
+use Rattle.stores.specs.Stepping.{steppingBack}
 use Rattle.steering.specs.Fresh.{freshBytes, fresheningWith, freshening}
 use Rattle.picture.proofs.Meant.{not-type, names-run, type-by}
 use Rattle.history.specs.Standing.{Event, hear}

@@ -24,7 +24,7 @@ use Rattle.recording.proofs.Entries.{faults-are-placed}
 use Rattle.codec.specs.Writing.{frameSize}
 use Rattle.layouts.specs.declared.parts.Held.{Held}
 use Rattle.layouts.specs.declared.parts.Held.the-variants.{Holds, Nothing}
-use Rattle.velbus.specs.Words.{values}
+use Rattle.results.specs.Words.{values}
 use Rattle.layouts.specs.Layout.{messageSize, heldIn}
 use Rattle.demands.specs.Order.{Test, _or_, Verdict, answers, refuses, verdict, frameOrder, readerOrder, messageTests, writerOrder, pictureTest, freshOrder, roomTest, kindHeard, hearingOrder, backOrder, listedOrder, questionTests, questionOrder, rightOrder, planOrder, putOrder, replayOrder, partOrder, listingOrder, readOrder, heldTests, writeOrder}
 use Rattle.demands.specs.Demand1.{wordOf}

@@ -20,7 +20,7 @@ use Rattle.shape.specs.declared.answers.Answer.the-variants as answer
 use Rattle.shape.specs.Answers.{outcomeNumbers, answerNumbers}
 use Rattle.shape.specs.Result.{Result}
 use Rattle.picture.specs.Hearing.{hearing}
-use Rattle.changes.specs.Stepping.{steppingBack}
+use Rattle.stores.specs.Stepping.{steppingBack}
 use Rattle.steering.specs.Fresh.{fresheningWith, freshening}
 use Rattle.questions.specs.Question.{Question, Reply}
 use Rattle.questions.specs.Replies.{slotAsked, keptAnswer, listing, reply}
@@ -38,7 +38,7 @@ use Rattle.replay.specs.declared.window.Stream.{Stream}
 use Rattle.replay.specs.Replay.{replayedNumbers, replayAnswer, replayPicture}
 use Rattle.replay.specs.Window.{partNumbers, partAnswer, partPicture, partWindow}
 use Rattle.texts.specs.Listing.{listingText, listingAnswer, listingBytes}
-use Rattle.velbus.specs.Words.{values, refusedWord, outcomeWord, answerWord}
+use Rattle.results.specs.Words.{values, refusedWord, outcomeWord, answerWord}
 use Rattle.velbus.specs.Recordings.{putWord}
 use Rattle.layouts.specs.Layout.{messageSize}
 use Rattle.velbus.specs.Frames.{readWord, readInto, writeWord, writeInto}

@@ -8,7 +8,7 @@ use Rattle.laws.specs.Promises.{OneAnswer, OneResult, OneOutcome, NoChoice}
 use Rattle.judging.specs.Reading.{reading}
 use Rattle.shape.specs.Result.{Result}
 use Rattle.picture.specs.Hearing.{hearing}
-use Rattle.changes.specs.Stepping.{steppingBack}
+use Rattle.stores.specs.Stepping.{steppingBack}
 use Rattle.steering.specs.Fresh.{fresheningWith, freshening}
 use Rattle.questions.specs.Question.{Question, Reply}
 use Rattle.questions.specs.Replies.{listing, reply}
@@ -21,7 +21,7 @@ use Rattle.replay.specs.Window.{partAnswer, partPicture, partWindow}
 use Rattle.texts.specs.Listing.{listingAnswer, listingBytes}
 use Rattle.bench.specs.Making.{making}
 use Rattle.taking.specs.Taking.{Outcome, taking}
-use Rattle.velbus.specs.Words.{outcomeWord, answerWord}
+use Rattle.results.specs.Words.{outcomeWord, answerWord}
 use Rattle.velbus.specs.Benches.{takenWord}
 use Rattle.velbus.specs.Recordings.{putWord}
 use Rattle.velbus.specs.Frames.{readWord, readInto, writeWord, writeInto}

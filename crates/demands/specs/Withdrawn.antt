@@ -9,7 +9,7 @@ use Rattle.frame.specs.declared.messages.Message.{Message}
 use Rattle.questions.specs.Question.{Question}
 use Rattle.recording.specs.declared.records.Entry.the-variants.{Broken}
 use Rattle.recording.specs.Record.{readRecord}
-use Rattle.velbus.specs.Words.{values}
+use Rattle.results.specs.Words.{values}
 use Rattle.demands.specs.Order.{Test, Verdict, refuses, verdict, readerOrder, writerOrder, pictureTest, freshOrder, hearingOrder, backOrder, listedOrder, questionOrder, rightOrder, planOrder, putOrder, replayOrder, partOrder, listingOrder, readOrder, writeOrder}
 use Rattle.demands.specs.Demand1.{wordOf}
 

@@ -16,8 +16,8 @@ use Rattle.places.specs.Runs.{Run}
 use Rattle.places.specs.Fitting.{endOf}
 use Rattle.shape.specs.Layout.{countAt, slotAt, recordSize, recordAt, size}
 use Rattle.shape.specs.Head.{modulesOf}
-use Rattle.changes.specs.Log.{didEnter, noted}
-use Rattle.changes.specs.Records.{newRecord, listedAt}
+use Rattle.stores.specs.Log.{didEnter, noted}
+use Rattle.modules.specs.Records.{newRecord, listedAt}
 use Rattle.history.specs.Machine.{entered, new}
 use Rattle.history.specs.Refinement.{moduleAt, stateOf, Good}
 use Rattle.history.proofs.Stores.{Within, within-set}

@@ -15,7 +15,7 @@ use Rattle.places.specs.Runs.{Run}
 use Rattle.places.specs.Fitting.{endOf}
 use Rattle.shape.specs.Layout.{keptAt, slotAt, recordSize, recordAt}
 use Rattle.shape.specs.Head.{modulesOf, keptOf, depthOf}
-use Rattle.changes.specs.Records.{newRecord, exchangedBytes}
+use Rattle.modules.specs.Records.{newRecord, exchangedBytes}
 use Rattle.history.specs.Machine.{new}
 use Rattle.history.specs.Refinement.{entries, stateOf, Good}
 use Rattle.history.proofs.Stores.{Within, within-set}

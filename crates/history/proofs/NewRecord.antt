@@ -13,7 +13,7 @@ use Rattle.places.specs.Places.{places}
 use Rattle.shape.specs.Limits.{room}
 use Rattle.history.specs.Standing.{unknown}
 use Rattle.places.specs.Fitting.{endOf}
-use Rattle.changes.specs.Records.{blankRecord, newRecord}
+use Rattle.modules.specs.Records.{blankRecord, newRecord}
 use Rattle.history.specs.Machine.{told-by, blank, new}
 use Rattle.history.specs.Refinement.{cellAt, moduleAt}
 use Rattle.history.proofs.Stores.{Within, within-then, within-wider, within-set, within-blanked, blanked-cell}

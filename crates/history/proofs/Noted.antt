@@ -7,8 +7,8 @@ use lib.ListN.{getD, length}
 use Rattle.shape.specs.Limits.{ring}
 use Rattle.shape.specs.Layout.{keptAt, nextAt, entrySize, oldAt, offsetAt, size}
 use Rattle.shape.specs.Head.{nextOf}
-use Rattle.changes.specs.Log.{didNothing, didEnter, numberBytes, notedAt, noted}
-use Rattle.changes.specs.Stepping.{offsetOf}
+use Rattle.stores.specs.Log.{didNothing, didEnter, numberBytes, notedAt, noted}
+use Rattle.stores.specs.Stepping.{offsetOf}
 use Rattle.history.specs.Machine.{Undo, same, entered}
 use Rattle.history.specs.Refinement.{undoAt, stateOf, Good}
 use Rattle.history.proofs.Stores.{Within, within-wider, laid-within, laid-at, stored-lays}

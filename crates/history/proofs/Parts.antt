@@ -17,7 +17,7 @@ use Rattle.places.specs.Places.{mostPlaces, places}
 use Rattle.shape.specs.Layout.{countAt, keptAt, nextAt, depthAt, slotAt, recordSize, recordAt, kindAt, placeAt, ringAt, entrySize, oldAt, offsetAt, size}
 use Rattle.shape.specs.Head.{short, modulesOf, keptOf, nextOf, depthOf, before, following}
 use Rattle.steering.specs.Steps.{oneMore, stepped}
-use Rattle.changes.specs.Stepping.{offsetOf}
+use Rattle.stores.specs.Stepping.{offsetOf}
 use Rattle.history.specs.Machine.{Cell, Module, nobody, Undo, same, State}
 use Rattle.history.specs.Refinement.{placeOf, cellAt, oldCell, wroteAt, moduleAt, undoAt, entries, stateOf, Good}
 use Rattle.history.proofs.Ring.{push, length-entries}

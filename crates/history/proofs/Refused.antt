@@ -12,9 +12,9 @@ use Rattle.places.specs.Runs.{Meaning, refuses, names, enters}
 use Rattle.shape.specs.Result.{Result, refusing, done}
 use Rattle.shape.specs.Head.{short, modulesOf, keptOf}
 use Rattle.changes.specs.Telling.{naming}
-use Rattle.changes.specs.Records.{enteredBytes}
+use Rattle.modules.specs.Records.{enteredBytes}
 use Rattle.picture.specs.Hearing.{entering, hearingAs, hearingAt, hearing}
-use Rattle.changes.specs.Stepping.{backOver, steppingBack}
+use Rattle.stores.specs.Stepping.{backOver, steppingBack}
 use Rattle.history.specs.Standing.{hear, back}
 use Rattle.history.specs.Demand3.{doing, RefusedKeeps}
 

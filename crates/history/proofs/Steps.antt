@@ -21,9 +21,9 @@ use Rattle.shape.specs.Result.{Result, refusing, done}
 use Rattle.places.proofs.Fitting.{runs-fit}
 use Rattle.steering.specs.Steps.{stepped}
 use Rattle.changes.specs.Telling.{toldBytes, sameBytes, isEmpty, naming}
-use Rattle.changes.specs.Records.{enteredBytes, exchangedBytes}
+use Rattle.modules.specs.Records.{enteredBytes, exchangedBytes}
 use Rattle.picture.specs.Hearing.{entering, hearingAs, hearingAt, hearing}
-use Rattle.changes.specs.Stepping.{undone, backOver, steppingBack}
+use Rattle.stores.specs.Stepping.{undone, backOver, steppingBack}
 use Rattle.history.specs.Standing.{Frame, address, sense, meaning, exchanged, outcomeOf, hear, back}
 use Rattle.history.specs.Machine.{Module, Undo, same, entered, wrote, State, Step, find, slot, kindOf, olds, told-by, new, undo, logged, kept-as, told-in, hears, backs, step}
 use Rattle.history.specs.Demand3.{doing}

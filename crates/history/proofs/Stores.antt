@@ -16,7 +16,7 @@ use Rattle.laws.proofs.Tab.{tab-set}
 use Rattle.shape.specs.Layout.{placeAt}
 use Rattle.places.specs.Runs.{Saying, silent, asks, tells}
 use Rattle.steering.specs.Fresh.{zeroed}
-use Rattle.changes.specs.Stores.{pair, putAt, written, blanked, stored, copied}
+use Rattle.stores.specs.Stores.{pair, putAt, written, blanked, stored, copied}
 use Rattle.questions.specs.Fills.{filledTo}
 use Rattle.history.specs.Standing.{unknown}
 use Rattle.history.specs.Machine.{Cell, put, write}

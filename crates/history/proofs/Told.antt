@@ -17,8 +17,8 @@ use Rattle.places.specs.Runs.{Run}
 use Rattle.places.specs.Fitting.{endOf}
 use Rattle.shape.specs.Layout.{recordSize, recordAt, kindAt, placeAt, ringAt, entrySize, oldSize, oldAt, offsetAt, size}
 use Rattle.shape.specs.Head.{nextOf}
-use Rattle.changes.specs.Stores.{written, copied}
-use Rattle.changes.specs.Log.{saved}
+use Rattle.stores.specs.Stores.{written, copied}
+use Rattle.stores.specs.Log.{saved}
 use Rattle.history.specs.Machine.{Cell, Module, wrote, oldsFrom, olds, told-by}
 use Rattle.history.specs.Refinement.{recordOf, placeOf, cellAt, moduleAt, oldCell, wroteAt, undoAt, stateOf, Good}
 use Rattle.history.proofs.Stores.{Within, within-then, within-wider, laid-within, copied-lays, copied-at, within-written, row, written-row}

@@ -17,9 +17,9 @@ use Rattle.shape.specs.Limits.{room, ring}
 use Rattle.places.specs.Places.{mostPlaces, places}
 use Rattle.shape.specs.Layout.{countAt, slotAt, recordSize, recordAt, kindAt, placeAt, ringAt, oldSize, oldAt, size}
 use Rattle.shape.specs.Head.{modulesOf, depthOf}
-use Rattle.changes.specs.Stores.{copied}
-use Rattle.changes.specs.Log.{didEnter}
-use Rattle.changes.specs.Stepping.{offsetOf, undone}
+use Rattle.stores.specs.Stores.{copied}
+use Rattle.stores.specs.Log.{didEnter}
+use Rattle.stores.specs.Stepping.{offsetOf, undone}
 use Rattle.history.specs.Machine.{Cell, Module, nobody, Undo, same, entered, wrote, lost, restore, restored, butLast, undo}
 use Rattle.history.specs.Refinement.{recordOf, placeOf, cellAt, moduleAt, oldCell, wroteAt, undoAt, stateOf, Good, Found}
 use Rattle.history.proofs.Modules.{butLast-append}

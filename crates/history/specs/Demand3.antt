@@ -12,7 +12,7 @@ use Rattle.places.specs.Places.{places}
 use Rattle.shape.specs.Result.{Result}
 use Rattle.shape.specs.Layout.{size}
 use Rattle.picture.specs.Hearing.{hearing}
-use Rattle.changes.specs.Stepping.{steppingBack}
+use Rattle.stores.specs.Stepping.{steppingBack}
 use Rattle.steering.specs.Fresh.{fresheningWith}
 use Rattle.questions.specs.Question.{Question}
 use Rattle.questions.specs.Replies.{reply, keptAnswer, listing}

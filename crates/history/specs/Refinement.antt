@@ -12,8 +12,8 @@ use Rattle.shape.specs.Limits.{ring, addresses}
 use Rattle.places.specs.Places.{mostPlaces, places}
 use Rattle.shape.specs.Layout.{slotAt, recordsAt, recordHead, recordSize, recordAt, kindAt, placeAt, ringAt, oldSize, oldAt, size}
 use Rattle.shape.specs.Head.{modulesOf, keptOf, nextOf, depthOf, before}
-use Rattle.changes.specs.Log.{didEnter}
-use Rattle.changes.specs.Stepping.{offsetOf}
+use Rattle.stores.specs.Log.{didEnter}
+use Rattle.stores.specs.Stepping.{offsetOf}
 use Rattle.history.specs.Standing.{unknown, told, outcomeOf, Event}
 use Rattle.history.specs.Machine.{Cell, Module, Undo, same, entered, wrote, lost, State, step}
 use Rattle.history.specs.Demand3.{doing}

@@ -2,7 +2,7 @@
 --     Stands, stands-last, stands-more    a number stands at an offset: its last group, and a group before the rest
 --     stands-two-more                     two groups before the rest
 --     stands-three, -four, -five          a number of so many groups
---     stood, taken                        where it is allowed, it is what the reader of groups finds
+--     stood                               where it is allowed, it is what the reader of groups finds
 --     nothing-found                       where the quick way found none
 -- Assumes nothing.
 use mathlib.Core.Path.{_≡_, refl, ap, _∙_}
@@ -73,13 +73,6 @@ pub stood : (s : List ℕ) (at most v groups : ℕ) → most ≤ most64 → v �
 stood s at most v groups small fits stands =
     let held = groups-hold mostGroups most (omega arith) (omega arith) in
     stands (groupsOf most) most (held .0) (held .1) fits
-
--- the quick way's answer, of `value` and `groups`, where it has any groups and is allowed
-pub taken : (s : List ℕ) (at most value groups last : ℕ) {v n : ℕ} → (0 < n → (v ≡ value) × (n ≡ groups) × (0 < last) × (value ≤ most)) → most ≤ most64
-    → (0 < last → Stands s at value groups) → 0 < n → Value v n ≡ numberAt s at most
-taken s at most value groups last says small stands some =
-    let w = says some in
-    (λ i. Value (w .0 i) (w .1 i)) ∙ stood s at most value groups small (w .3) (stands (w .2))
 
 -- no groups say that the quick way found nothing: then what it found may be said to be anything
 pub nothing-found : {A : Type 0} {n : ℕ} → n ≡ 0 → 0 < n → A

@@ -1,5 +1,4 @@
 // Seven-bit numbers: the reader of the number at an offset.
-mod quick;
 mod scan;
 
 pub use scan::number;

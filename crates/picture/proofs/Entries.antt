@@ -24,8 +24,9 @@ use Rattle.shape.specs.Layout.{size}
 use Rattle.shape.specs.Result.{Result}
 use Rattle.shape.specs.Head.{noSlot, modulesOf}
 use Rattle.changes.specs.Telling.{naming, toldIn}
-use Rattle.changes.specs.Records.{exchangedBytes, enteredBytes, enterNumber, enteredIn, exchangedIn}
-use Rattle.changes.proofs.Within.{lies-true, told-in}
+use Rattle.modules.specs.Records.{exchangedBytes, enteredBytes, enterNumber, enteredIn, exchangedIn}
+use Rattle.stores.proofs.Within.{lies-true}
+use Rattle.changes.proofs.Told.{told-in}
 use Rattle.picture.specs.Hearing.{entering, hearingAs, numberOf}
 use Rattle.picture.proofs.Meant.{type-told}
 

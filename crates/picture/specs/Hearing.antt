@@ -12,7 +12,7 @@ use Rattle.shape.specs.Answers.{outcomeNumbers}
 use Rattle.shape.specs.Result.{Result, refusing, done}
 use Rattle.shape.specs.Head.{short, modulesOf, slotOf, kindIn}
 use Rattle.changes.specs.Telling.{naming}
-use Rattle.changes.specs.Records.{enteredBytes, exchangedBytes}
+use Rattle.modules.specs.Records.{enteredBytes, exchangedBytes}
 
 -- an entry as the type t, at the address a whose slot is s and whose type is kind
 unfoldable pub entering : List ℕ → ℕ → ℕ → ℕ → ℕ → Run → Result

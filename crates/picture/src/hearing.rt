@@ -1,7 +1,5 @@
 // Hearing a frame: its number, 0 where it is accepted, and what it does to the picture. Its own tests come first, then a type request and the type
 // frame; every other command is judged and told at one look.
-use changes::enter;
-use changes::exchange;
 use changes::pass;
 use changes::tell_build;
 use commands::hear_command;
@@ -19,6 +17,8 @@ use laws::TYPE_NOT_KNOWN;
 use laws::byte_at;
 use laws::unless;
 use laws::wide32;
+use modules::enter;
+use modules::exchange;
 use shape::Outcome;
 use shape::ROOM;
 use shape::SIZE;

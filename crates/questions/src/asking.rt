@@ -1,6 +1,6 @@
 // What every question goes through: the slot of the address asked for, and what a place holds.
 use frame::Address;
-use laws::wide16;
+use laws::number16;
 use shape::ADDRESSES;
 use shape::Answer;
 use shape::NO_SLOT;
@@ -34,7 +34,7 @@ pub(crate) fn number_at(picture: &[u8], at: usize) -> u16
     requires { ⌜ at + 2 ≤ length (now picture) ⌝ }
     ensures { λ r. ⌜ r ≡ valueAt (now (picture .entry)) at ⌝ }
 {
-    wide16(picture[at]) + 256 * wide16(picture[at + 1])
+    number16(picture[at], picture[at + 1])
 }
 
 // What a place's number says.

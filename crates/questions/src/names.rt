@@ -18,13 +18,13 @@ use shape::place_at;
 ghost use mathlib.Core.Path.{_≡_};
 ghost use mathlib.Core.Bool.{true};
 ghost use Prim.Native.Nat.{_+_, _*_, _<_, _≤_};
-ghost use lib.ListN.{length, getD};
+ghost use lib.ListN.{length};
 ghost use Rattle.shape.specs.Limits.{room};
 ghost use Rattle.shape.specs.Layout.{size, placeAt};
 ghost use Rattle.places.specs.Places.{nameLength, hasName, nameRow};
 ghost use Rattle.shape.specs.Head.{kindIn};
 ghost use Rattle.questions.specs.Question.{name-row, name-bytes};
-ghost use Rattle.questions.specs.Fills.{filledTo, heardAt, sumTo};
+ghost use Rattle.questions.specs.Fills.{heardAt, sumTo};
 ghost use Rattle.questions.specs.Replies.{replyAs, reply};
 
 // How many characters a name has.
@@ -100,15 +100,6 @@ pub fn name(picture: &[u8], address: AddressAsked, name: u32, row: &mut [u16]) -
     }
 }
 
-// n bytes from `at` on, to the beginning of a buffer.
-fn fill_few(s: &[u8], at: usize, n: usize, out: &mut [u8])
-    requires { ⌜ (at + n ≤ length (now s)) × (n ≤ length (now out)) ⌝ }
-    ensures { λ _. ⌜ now (out .exit) ≡ filledTo (λ j. getD (now (s .entry)) (at + j) 0) (now (out .entry)) n ⌝ }
-{
-    let end = at + n;
-    copy_few(out, &s[at..end]);
-}
-
 fn name_bytes_in(picture: &[u8], slot: u8, name: u32, out: &mut [u8]) -> Answer
     requires { ⌜ (size ≤ length (now picture)) × (slot < room) ⌝ }
     ensures { λ r. ⌜ r ≡ replyAs (now (picture .entry)) slot (kindIn (now (picture .entry)) slot) (name-bytes name) (now (out .entry)) .answer ⌝ }
@@ -120,7 +111,8 @@ fn name_bytes_in(picture: &[u8], slot: u8, name: u32, out: &mut [u8]) -> Answer
             return Answer::Refused(TOO_SHORT);
         }
         let at = name_at(picture, slot, name);
-        fill_few(picture, at, n, out);
+        let end = at + n;
+        copy_few(out, &picture[at..end]);
         return Answer::Value(heard_from(picture, at));
     }
     Answer::Refused(NO_SUCH_PLACE)

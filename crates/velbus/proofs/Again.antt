@@ -34,7 +34,7 @@ use Rattle.kinds.proofs.Listed.{everywhere, of-any}
 use Rattle.codec.proofs.Shapes.{cell-near, block-near}
 use Rattle.codec.proofs.RoundTrip.{read-then-written, written-then-read, written-lawful}
 use Rattle.layouts.specs.Parts.{timeSeconds, Numbered, longTypes, shortTypes, noMessage, numberIn, commandParts, partsOf}
-use Rattle.velbus.specs.Words.{roomWord}
+use Rattle.results.specs.Words.{roomWord}
 use Rattle.layouts.specs.Layout.{messageSize, laidBytes, heldIn}
 use Rattle.velbus.specs.Frames.{heldWord, heldInto, readInto, writeWord, writeInto}
 use Rattle.layouts.specs.Statements.{Fitting}

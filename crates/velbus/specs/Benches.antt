@@ -2,7 +2,7 @@
 use Prim.Native.Nat.{ℕ}
 use Rattle.taking.specs.Taking.{takenNumbers}
 use Rattle.taking.specs.declared.taking.Taken.{Taken}
-use Rattle.velbus.specs.Words.{word}
+use Rattle.results.specs.Words.{word}
 
 -- the number of replies, or the refusal
 abbrev pub takenWord : Taken → ℕ

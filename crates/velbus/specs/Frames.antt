@@ -15,7 +15,7 @@ use Rattle.codec.specs.declared.writer.Writing.{Writing}
 use Rattle.codec.specs.declared.writer.Writing.the-variants as w
 use Rattle.layouts.specs.declared.parts.Held.{Held}
 use Rattle.layouts.specs.declared.parts.Held.the-variants.{Holds, Nothing}
-use Rattle.velbus.specs.Words.{refusedWord, word, roomNumbers}
+use Rattle.results.specs.Words.{refusedWord, word, roomNumbers}
 use Rattle.layouts.specs.Parts.{partsOf}
 use Rattle.layouts.specs.Layout.{messageSize, laidBytes, heldIn}
 

@@ -1,4 +1,3 @@
-pub mod Words
 pub mod Frames
 pub mod Recordings
 pub mod Statements

@@ -2,7 +2,7 @@
 use Prim.Native.Nat.{ℕ}
 use Rattle.recorder.specs.declared.writes.Put.{Put}
 use Rattle.recorder.specs.Write.{putNumbers}
-use Rattle.velbus.specs.Words.{word}
+use Rattle.results.specs.Words.{word}
 
 -- the count of the bytes written (a record has 16 at most), or the refusal
 abbrev pub putWord : Put → ℕ

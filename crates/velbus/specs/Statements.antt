@@ -17,7 +17,7 @@ use Rattle.layouts.specs.declared.parts.Held.the-variants.{Holds}
 use Rattle.layouts.specs.Parts.{noMessage, partsOf}
 use Rattle.layouts.specs.Layout.{messageSize, laidBytes, heldIn}
 use Rattle.velbus.specs.Frames.{readWord, readInto, writeWord, writeInto}
-use Rattle.velbus.specs.Words.{roomWord}
+use Rattle.results.specs.Words.{roomWord}
 
 -- velbus_write gives just this frame, into the buffer `out`
 pub record WritesAgain (kind : ℕ) (message out : List ℕ) (identifier remote : ℕ) (s : List ℕ) : Type 0 where

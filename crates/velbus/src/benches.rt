@@ -1,12 +1,12 @@
 // A bench module to teach on, in lent bytes.
-use crate::words::outcome_word;
-use crate::words::refused;
+use results::outcome_word;
+use results::refused;
 use taking::Taken;
 ghost use mathlib.Core.Path.{_≡_};
 ghost use Rattle.replies.specs.Bench.{benchSize};
 ghost use Rattle.bench.specs.Making.{making};
 ghost use Rattle.taking.specs.Taking.{taking};
-ghost use Rattle.velbus.specs.Words.{outcomeWord};
+ghost use Rattle.results.specs.Words.{outcomeWord};
 ghost use Rattle.velbus.specs.Benches.{takenWord};
 
 fn taken_word(taken: Taken) -> u32

@@ -1,6 +1,4 @@
 // Frames read into a lent message, and messages written into a lent frame.
-use crate::words::refused;
-use crate::words::room_word;
 use codec::FRAME_SIZE;
 use codec::Frame;
 use codec::Writing;
@@ -17,12 +15,14 @@ use layouts::MESSAGE_SIZE;
 use layouts::held_in;
 use layouts::laid;
 use layouts::parts_of;
+use results::refused;
+use results::room_word;
 ghost use mathlib.Core.Path.{_≡_};
 ghost use lib.ListN.{length};
 ghost use Rattle.judging.specs.Reading.{reading};
 ghost use Rattle.codec.specs.Writing.{writing, frameSize, frameBytes};
 ghost use Rattle.laws.specs.Copies.{copiedIn};
-ghost use Rattle.velbus.specs.Words.{roomWord};
+ghost use Rattle.results.specs.Words.{roomWord};
 ghost use Rattle.layouts.specs.Parts.{partsOf};
 ghost use Rattle.layouts.specs.Layout.{messageSize, laidBytes, heldIn};
 ghost use Rattle.velbus.specs.Frames.{readWord, readInto, writtenWord, writtenInto, heldWord, heldInto, writeWord, writeInto};

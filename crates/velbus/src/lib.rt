@@ -4,7 +4,6 @@ mod frames;
 mod pictures;
 mod plans;
 mod recordings;
-mod words;
 
 pub use frames::velbus_read;
 pub use frames::velbus_write;

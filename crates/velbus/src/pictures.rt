@@ -1,18 +1,18 @@
 // The picture: hearing, stepping back and asking.
-use crate::words::answer_word;
-use crate::words::outcome_word;
-use crate::words::refused;
 use questions::AddressAsked;
 use questions::LocationAsked;
+use results::answer_word;
+use results::outcome_word;
+use results::refused;
 ghost use mathlib.Core.Path.{_≡_};
 ghost use mathlib.Core.List.{[]};
 ghost use Rattle.shape.specs.Layout.{size};
 ghost use Rattle.picture.specs.Hearing.{hearing};
-ghost use Rattle.changes.specs.Stepping.{steppingBack};
+ghost use Rattle.stores.specs.Stepping.{steppingBack};
 ghost use Rattle.steering.specs.Fresh.{fresheningWith, freshening};
 ghost use Rattle.questions.specs.Question.{type-of, build-year, build-week, cell, led, blind, name-bytes, memory-bytes};
 ghost use Rattle.questions.specs.Replies.{keptAnswer, listing, reply};
-ghost use Rattle.velbus.specs.Words.{outcomeWord, answerWord};
+ghost use Rattle.results.specs.Words.{outcomeWord, answerWord};
 
 #[no_mangle]
 pub extern "C" fn velbus_picture_size() -> u32

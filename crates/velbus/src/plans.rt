@@ -1,9 +1,9 @@
 // The plan of reads, and the test of a proposed one.
-use crate::words::answer_word;
 use questions::AddressAsked;
+use results::answer_word;
 ghost use mathlib.Core.Path.{_≡_};
 ghost use Rattle.plan.specs.Replies.{planBytesReply, rightBytesAnswer};
-ghost use Rattle.velbus.specs.Words.{answerWord};
+ghost use Rattle.results.specs.Words.{answerWord};
 
 #[no_mangle]
 pub extern "C" fn velbus_plan(picture: &[u8], address: u32, out: &mut [u8]) -> u32

@@ -1,6 +1,6 @@
 // Records put into a lent buffer.
-use crate::words::refused;
 use recorder::Put;
+use results::refused;
 ghost use mathlib.Core.Path.{_≡_};
 ghost use Rattle.recorder.specs.Write.{putAnswer, putBytes};
 ghost use Rattle.velbus.specs.Recordings.{putWord};

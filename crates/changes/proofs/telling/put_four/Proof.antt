@@ -1,9 +1,9 @@
 -- `changes::telling::put_four` meets its contract. Assumes nothing.
 use mathlib.Core.List.{[], _∷_}
 use borrow.Author.Needs.{needs}
-use Rattle.changes.specs.Stores.{putAt, written}
+use Rattle.stores.specs.Stores.{putAt, written}
 use Rattle.places.specs.Runs.{tells}
-use Rattle.changes.proofs.Storing.{written-also}
+use Rattle.changes.proofs.Told.{written-also}
 use Rattle.changes.proofs.telling.put_four.Statement.{statement}
 use Rattle.changes.proofs.telling.put_four.Tie as tie
 

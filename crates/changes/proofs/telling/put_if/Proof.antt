@@ -2,7 +2,7 @@
 use borrow.Author.Tests.{eq-eqb, ne-eqb}
 use borrow.Author.Needs.{needs}
 use mathlib.Core.Path.{sym, _∙_}
-use Rattle.changes.specs.Stores.{putAt}
+use Rattle.stores.specs.Stores.{putAt}
 use Rattle.changes.proofs.telling.put_if.Statement.{statement}
 use Rattle.changes.proofs.telling.put_if.Tie as tie
 

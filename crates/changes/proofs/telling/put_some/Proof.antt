@@ -2,9 +2,9 @@
 use Prim.Native.Nat.{_+_}
 use mathlib.Core.List.{[], _∷_}
 use borrow.Author.Needs.{needs}
-use Rattle.changes.specs.Stores.{written}
+use Rattle.stores.specs.Stores.{written}
 use Rattle.places.specs.Runs.{ledIf}
-use Rattle.changes.proofs.Storing.{written-also}
+use Rattle.changes.proofs.Told.{written-also}
 use Rattle.changes.proofs.telling.put_some.Statement.{statement}
 use Rattle.changes.proofs.telling.put_some.Tie as tie
 

@@ -7,7 +7,7 @@ use Rattle.shape.specs.declared.answers.Outcome.{Outcome}
 use Rattle.shape.specs.declared.answers.Outcome.the-variants.{Done, Refused}
 use Rattle.shape.specs.Answers.{outcomeNumbers}
 use Rattle.picture.specs.Hearing.{hearing}
-use Rattle.velbus.specs.Words.{refusedWord, outcomeWord}
+use Rattle.results.specs.Words.{refusedWord, outcomeWord}
 use Rattle.velbus.proofs.pictures.velbus_hear.Statement.{statement}
 use Rattle.velbus.proofs.pictures.velbus_hear.Tie as tie
 

@@ -1,0 +1,2 @@
+-- The result word of a call from C.
+pub mod Words
