@@ -16,14 +16,14 @@ ghost use Rattle.places.specs.Places.{cellPlace};
 ghost use Rattle.places.specs.Runs.{telling, glowNumber, someLeds};
 ghost use Rattle.bench.specs.Deeds.{deed, done, doneBy};
 
-fn set_cell(bench: &mut [u8], l: Location, v: u8)
+pub fn set_cell(bench: &mut [u8], l: Location, v: u8)
     ensures { λ _. ⌜ now (bench .exit) ≡ doneBy (telling (cellPlace vmb8ir (l .0)) (v ∷ [])) (now (bench .entry)) ⌝ }
 {
     let values = [v];
     put_bytes(bench, cell_place(KIND, l), &values);
 }
 
-fn set_block(bench: &mut [u8], l: Location, a: u8, b: u8, c: u8, d: u8)
+pub fn set_block(bench: &mut [u8], l: Location, a: u8, b: u8, c: u8, d: u8)
     ensures { λ _. ⌜ now (bench .exit) ≡ doneBy (telling (cellPlace vmb8ir (l .0)) (a ∷ b ∷ c ∷ d ∷ [])) (now (bench .entry)) ⌝ }
 {
     let values = [a, b, c, d];

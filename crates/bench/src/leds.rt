@@ -12,7 +12,7 @@ ghost use Rattle.bench.specs.Deeds.{keep, doneBy};
 const FIRST: usize = LEDS as usize;
 
 // All eight, by an on byte, a slow byte and a fast byte.
-pub(crate) fn set_all(bench: &mut [u8], on: u8, slow: u8, fast: u8)
+pub fn set_all(bench: &mut [u8], on: u8, slow: u8, fast: u8)
     ensures { λ _. ⌜ now (bench .exit) ≡ doneBy (allLeds on slow fast) (now (bench .entry)) ⌝ }
 {
     let states = leds_by(on, slow, fast);
@@ -28,7 +28,7 @@ fn put_if(bench: &mut [u8], p: usize, bit: u8, state: u8)
 }
 
 // Those with a one in the mask.
-pub(crate) fn set_some(bench: &mut [u8], mask: u8, state: u8)
+pub fn set_some(bench: &mut [u8], mask: u8, state: u8)
     ensures { λ _. ⌜ now (bench .exit) ≡ doneBy (someLeds mask state) (now (bench .entry)) ⌝ }
 {
     put_if(bench, FIRST, mask % 2, state);

@@ -6,6 +6,10 @@ mod making;
 mod sending;
 
 pub use deeds::act_on;
+pub use deeds::set_block;
+pub use deeds::set_cell;
+pub use leds::set_all;
+pub use leds::set_some;
 pub use making::SIZE;
 pub use making::bench_new;
 pub use making::bench_size;

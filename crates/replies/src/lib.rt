@@ -7,6 +7,8 @@ pub use cells::ADDRESS_AT;
 pub use cells::KIND;
 pub use cells::VERSION_AT;
 pub use cells::cell_at;
+pub use leds::Shown;
+pub use leds::leds_shown;
 pub use told::block_told;
 pub use told::dump_block;
 pub use told::name_cell;

@@ -3,9 +3,8 @@ use crate::cells::KIND;
 use crate::cells::VERSION_AT;
 use crate::cells::cell_after;
 use crate::cells::cell_at;
-use crate::leds::ones_byte;
+use crate::leds::leds_shown;
 use frame::Command;
-use frame::Glow;
 use frame::Location;
 use kinds::VMB8IR;
 use kinds::name_of;
@@ -92,12 +91,8 @@ pub fn name_three(bench: &[u8], n: u8, l: Location) -> Command
 pub fn status_told(bench: &[u8]) -> Command
     ensures { λ r. ⌜ r ≡ status (now (bench .entry)) ⌝ }
 {
-    Command::InputStatus(
-        0,
-        ones_byte(bench, Glow::On, Glow::On),
-        ones_byte(bench, Glow::Slow, Glow::VeryFast),
-        ones_byte(bench, Glow::Fast, Glow::VeryFast),
-    )
+    let s = leds_shown(bench);
+    Command::InputStatus(0, s.0, s.1, s.2)
 }
 
 // The serial number, the map version and the build.

@@ -4,27 +4,30 @@ use borrow.Author.Needs.{needs}
 use Rattle.replies.proofs.leds.lights.Statement.{statement}
 use Rattle.replies.proofs.leds.lights.Tie as tie
 
-returns : tie.Need-returns
+returns-2 : tie.Need-returns-2
 unfolding tab
-returns c = rw (c .before .before .before .before .before .before .before .byte-at .ensures, c .before .before .before .before .before .before .byte-at2 .ensures, c .before .before .before .before .before .byte-at3 .ensures, c .before .before .before .before .byte-at4 .ensures, c .before .before .before .byte-at5 .ensures, c .before .before .byte-at6 .ensures, c .before .byte-at7 .ensures, c .byte-at8 .ensures)
+returns-2 c = search needs
 
 pub lights-spec : {M : Type 1} → statement M
 lights-spec =
     tie.close
     (tie.spec
-    (λ c κs. search needs)
     (λ c. search needs)
     (λ c κs. search needs)
     (λ c. search needs)
-    (λ c κs. search needs)
     (λ c. search needs)
-    (λ c κs. search needs)
     (λ c. search needs)
-    (λ c κs. search needs)
     (λ c. search needs)
-    (λ c κs. search needs)
     (λ c. search needs)
-    (λ c κs. search needs)
     (λ c. search needs)
-    (λ c κs. search needs)
-    returns)
+    (λ c. search needs)
+    (λ c. search needs)
+    (λ c. search needs)
+    (λ c. search needs)
+    (λ c. search needs)
+    (λ c. search needs)
+    (λ c. search needs)
+    (λ c. search needs)
+    (λ c. search needs)
+    (λ c. search needs)
+    returns-2)
