@@ -1,4 +1,6 @@
 // A frame taken by a bench: judged, its deed done, and its replies written.
+mod arms;
+mod laying;
 mod taking;
 
 pub use taking::Taken;

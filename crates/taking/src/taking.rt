@@ -1,4 +1,6 @@
 // A frame for the bench.
+use crate::arms::take_own;
+use crate::laying::LOWEST;
 use bench::SIZE;
 use bench::act_on;
 use bench::reply;
@@ -7,11 +9,16 @@ use codec::FRAME_SIZE;
 use frame::Message;
 use laws::TOO_SHORT;
 use laws::byte_at;
+use laws::wide32;
 use replies::ADDRESS_AT;
 use verdicts::Verdict;
 use verdicts::judge;
 ghost use mathlib.Core.Path.{_≡_};
+ghost use Prim.Native.Nat.{_≤_};
+ghost use lib.ListN.{length};
+ghost use Rattle.replies.specs.Bench.{benchSize};
 ghost use Rattle.taking.specs.Taking.{given, taking};
+ghost use Rattle.taking.specs.Arms.{Took};
 
 // The answer to a frame: the number of replies written, or a refusal, a 9 with its byte.
 pub enum Taken {
@@ -35,6 +42,25 @@ fn give(bench: &mut [u8], m: Message, replies: &mut [u8]) -> Taken
     }
 }
 
+// Any frame for a whole bench, read as a message.
+pub(crate) fn take_any(
+    bench: &mut [u8],
+    identifier: u32,
+    remote: u32,
+    data: &[u8],
+    replies: &mut [u8],
+) -> Taken
+    requires { ⌜ benchSize ≤ length (now bench) ⌝ }
+    ensures { λ r. ⌜ Took (now (bench .entry)) identifier remote (now («data» .entry)) (now (replies .entry)) r (now (bench .exit)) (now (replies .exit)) ⌝ }
+{
+    let v = judge(byte_at(bench, ADDRESS_AT), identifier, remote, data);
+    match v {
+        Verdict::Takes(m) => give(bench, m, replies),
+        Verdict::Silent => Taken::Replies(0),
+        Verdict::Refuses(code) => Taken::Refused(code),
+    }
+}
+
 // Takes a frame: does what it asks, writes the replies in order into `replies`, twelve bytes each, and answers their number; or refuses, and changes nothing.
 pub fn bench_take(
     bench: &mut [u8],
@@ -50,10 +76,12 @@ pub fn bench_take(
     if bench.len() < SIZE {
         return Taken::Refused(TOO_SHORT);
     }
-    let v = judge(byte_at(bench, ADDRESS_AT), identifier, remote, data);
-    match v {
-        Verdict::Takes(m) => give(bench, m, replies),
-        Verdict::Silent => Taken::Replies(0),
-        Verdict::Refuses(code) => Taken::Refused(code),
+    let address = byte_at(bench, ADDRESS_AT);
+    if identifier != LOWEST + 2 * wide32(address) {
+        return take_any(bench, identifier, remote, data, replies);
     }
+    if remote != 0 {
+        return take_any(bench, identifier, remote, data, replies);
+    }
+    take_own(bench, address, identifier, data, replies)
 }
