@@ -24,7 +24,7 @@ pub enum Replayed {
 }
 
 // Hears a frame: 1 where it is accepted, else 0.
-fn hear_one(picture: &mut [u8], identifier: u32, remote: u32, data: &[u8]) -> u64
+fn hear_one(picture: &mut [u8], identifier: u32, remote: u32, data: &[u8]) -> usize
     ensures { λ r. ⌜ r ≡ one (heardBy (now (picture .entry)) identifier remote (now («data» .entry)) .accepted) ⌝ }
     ensures { λ _. ⌜ now (picture .exit) ≡ heardBy (now (picture .entry)) identifier remote (now («data» .entry)) .picture ⌝ }
 {
@@ -39,8 +39,8 @@ pub fn hear_records(picture: &mut [u8], s: &[u8]) -> Replay
     ensures { λ r. ⌜ r ≡ replayed heardBy (now (picture .entry)) (now (s .entry)) .replay ⌝ }
     ensures { λ _. ⌜ now (picture .exit) ≡ replayed heardBy (now (picture .entry)) (now (s .entry)) .picture ⌝ }
 {
-    let mut heard: u64 = 0;
-    let mut refused: u64 = 0;
+    // the records refused, and those accepted: in memory, so that a record adds to one of two counts in one instruction and no register is taken
+    let mut counts: [u64; 2] = [0, 0];
     let mut at: usize = 0;
     loop {
         match recording::read_record(s, at) {
@@ -53,14 +53,13 @@ pub fn hear_records(picture: &mut [u8], s: &[u8]) -> Replay
                 next,
             } => {
                 let accepted = hear_one(picture, identifier, remote, &s[start..start + len]);
-                heard = heard + accepted;
-                refused = refused + (1 - accepted);
+                counts[accepted] = counts[accepted] + 1;
                 at = next;
             }
             Entry::End => {
                 return Replay {
-                    heard,
-                    refused,
+                    heard: counts[1],
+                    refused: counts[0],
                     at,
                     refusal: 0,
                     offset: at,
@@ -68,8 +67,8 @@ pub fn hear_records(picture: &mut [u8], s: &[u8]) -> Replay
             }
             Entry::Broken { refusal, offset } => {
                 return Replay {
-                    heard,
-                    refused,
+                    heard: counts[1],
+                    refused: counts[0],
                     at,
                     refusal,
                     offset,
