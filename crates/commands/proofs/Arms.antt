@@ -5,15 +5,16 @@
 --     misfitted, at-fault        the arm's refusals: by the form, by the fields
 --     not-there                  a module that does not list the command
 --     told, passed               what the arm tells
+--     by-field                   the same and at-fault in one, of an arm that tells where no field is at fault
 -- Assumes nothing.
 use Prim.Native.Nat.{ℕ, _+_, _/_, _≤_, _<_}
 use native.Mathlib.Omega.{arith}
 use mathlib.Core.Path.{_≡_, refl, sym, _∙_}
-use mathlib.Core.Bool.{Bool, true, false, not, _&&_}
+use mathlib.Core.Bool.{Bool, true, false, not, _&&_, cond}
 use mathlib.Core.List.{List}
 use lib.Dec.{eqb, leb, lit<}
 use lib.ListN.{length}
-use borrow.Author.Tests.{eq-eqb, ne-eqb, le-ltb, lt-ltb, not-true, not-false, le-leb, leb-true}
+use borrow.Author.Tests.{eqb-true, eqb-false, eq-eqb, ne-eqb, le-ltb, lt-ltb, not-true, not-false, le-leb, leb-true}
 use Rattle.laws.specs.Refusals.{notListed, wrongLength, wrongPriority}
 use Rattle.laws.specs.Tests.{unless}
 use Rattle.laws.proofs.Testing.{not-both, and-both, held}
@@ -109,3 +110,12 @@ module _ {has : ℕ → Bool} {k n p : ℕ} (arm : Arm has k n p) (b : List ℕ)
       pub passed : noRun ≡ runHere → {v : ℕ} → v ≡ field → v ≡ 0 → {b′ : List ℕ} → b′ ≡ passedIn b → Heard b slot kind priority s 0 b′
       unfolding naming passedIn
       passed is v z q = hearing b slot kind priority s (sym z ∙ v ∙ field-number) refl (rw (run-here, ← is, lt-ltb slot room (ready .within)) (rw (le-ltb (length b) size (ready .whole)) at q))
+
+      pub by-field :
+          (r : Run) → r ≡ runHere → isEmpty (r .says) ≡ false → r .start + length (r .says) ≤ places → {v : ℕ} {b′ : List ℕ} → v ≡ field → b′ ≡ cond (eqb field 0) (toldIn b slot r) b
+          → Heard b slot kind priority s v b′
+      by-field r is some fits {v} {b′} e q = go (eqb field 0) (eqb-true field 0) (eqb-false field 0) q
+        where
+          go : (t : Bool) → (t ≡ true → field ≡ 0) → (t ≡ false → field ≡ 0 → ⊥) → b′ ≡ cond t (toldIn b slot r) b → Heard b slot kind priority s v b′
+          go true z n q = let h : v ≡ 0 = e ∙ z refl in rw h (told r is e h some fits q)
+          go false z n q = at-fault e (λ h. n refl (sym e ∙ h)) q

@@ -1,4 +1,5 @@
 pub mod Rows
 pub mod Arms
+pub mod Statuses
 pub mod Families
 pub mod Dispatch

@@ -4,6 +4,7 @@ mod places;
 
 pub use leds::glow_by;
 pub use leds::glow_number;
+pub use places::BLINDS;
 pub use places::LEDS;
 pub use places::NAME_LENGTH;
 pub use places::PLACES;

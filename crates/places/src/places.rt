@@ -30,7 +30,7 @@ pub const WEEK: u32 = 1;
 
 pub const LEDS: u32 = 2;
 
-const BLINDS: u32 = 10;
+pub const BLINDS: u32 = 10;
 
 const NAMES: u32 = 16;
 
