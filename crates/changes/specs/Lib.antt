@@ -1,2 +1,3 @@
--- What is told to a picture's bytes, for every list of bytes; the contracts cite these.
+-- What is told to a picture's bytes, for every list of bytes; the contracts cite these. Lanes is how eight LEDs are worked out at once.
+pub mod Lanes
 pub mod Telling

@@ -1,10 +1,9 @@
-// The states of the eight LEDs, from the bytes that speak of all of them.
-use places::glow_by;
-use places::glow_number;
+// The states of the eight LEDs, from the bytes that speak of all of them: four at a time, each a 16-bit number of a word, as places hold them.
 ghost use mathlib.Core.Path.{_≡_};
-ghost use Prim.Native.Nat.{_<_};
+ghost use Prim.Native.Nat.{_+_, _-_, _*_, _<_, _≤_};
 ghost use Rattle.laws.specs.Tab.{tab};
 ghost use Rattle.places.specs.Runs.{bit, ledBy};
+ghost use Rattle.changes.specs.Lanes.{laneWord, wordBytes};
 
 // Bit i of a byte, counted from 0.
 pub(crate) fn bit(x: u8, i: u32) -> u8
@@ -14,25 +13,95 @@ pub(crate) fn bit(x: u8, i: u32) -> u8
     (x >> i) % 2
 }
 
-fn led_by(on: u8, slow: u8, fast: u8, i: u32) -> u8
-    requires { ⌜ i < 8 ⌝ }
-    ensures { λ r. ⌜ r ≡ ledBy on slow fast i ⌝ }
+// A byte times this stands in the product four times, fifteen bits apart, so that its bit i is at bit 16 i, and its bit i + 4 four further on.
+const FIFTEEN_APART: u64 = 0x0000200040008001;
+
+// Bit 0 of each of four 16-bit numbers.
+const LOWEST: u64 = 0x0001000100010001;
+
+// Bits 0 to 3 of a byte, each as a 16-bit number.
+fn low_lanes(x: u8) -> u64
+    ensures { λ r. ⌜ r ≡ laneWord (bit x) 0 ⌝ }
 {
-    let g = glow_by(bit(on, i), bit(slow, i), bit(fast, i));
-    glow_number(g)
+    (x as u64 * FIFTEEN_APART) & LOWEST
+}
+
+// Bits 4 to 7.
+fn high_lanes(x: u8) -> u64
+    ensures { λ r. ⌜ r ≡ laneWord (bit x) 4 ⌝ }
+{
+    (x as u64 * FIFTEEN_APART / 16) & LOWEST
+}
+
+// Four states at once: on is 1, slow 2, fast 3, and slow with fast 4. The difference is of the kind that may wrap, although it never does: of any
+// other the compiler would know that its last byte is 0, and store each byte by itself.
+fn states(on: u64, slow: u64, fast: u64, both: u64) -> u64
+    requires { ⌜ (on ≤ 0x0001000100010001) × (slow ≤ 0x0001000100010001) × (fast ≤ 0x0001000100010001) × (both ≤ fast) ⌝ }
+    ensures { λ r. ⌜ r ≡ on + 2 * slow + 3 * fast - both ⌝ }
+{
+    std::num::wrapping_sub_u64(on + 2 * slow + 3 * fast, both)
+}
+
+// LEDs 1 to 4. Those that are on blink neither slowly nor fast.
+fn low_leds(on: u8, slow: u8, fast: u8) -> u64
+    ensures { λ r. ⌜ r ≡ laneWord (ledBy on slow fast) 0 ⌝ }
+{
+    let slowly = slow & (255 - on);
+    let quickly = fast & (255 - on);
+    states(
+        low_lanes(on),
+        low_lanes(slowly),
+        low_lanes(quickly),
+        low_lanes(slowly & quickly),
+    )
+}
+
+// LEDs 5 to 8.
+fn high_leds(on: u8, slow: u8, fast: u8) -> u64
+    ensures { λ r. ⌜ r ≡ laneWord (ledBy on slow fast) 4 ⌝ }
+{
+    let slowly = slow & (255 - on);
+    let quickly = fast & (255 - on);
+    states(
+        high_lanes(on),
+        high_lanes(slowly),
+        high_lanes(quickly),
+        high_lanes(slowly & quickly),
+    )
+}
+
+fn word_bytes(w: u64) -> [u8; 8]
+    ensures { λ r. ⌜ r ≡ wordBytes w ⌝ }
+{
+    [
+        (w % 256) as u8,
+        (w / 256 % 256) as u8,
+        (w / 65536 % 256) as u8,
+        (w / 16777216 % 256) as u8,
+        (w / 4294967296 % 256) as u8,
+        (w / 1099511627776 % 256) as u8,
+        (w / 281474976710656 % 256) as u8,
+        (w / 72057594037927936 % 256) as u8,
+    ]
+}
+
+// LEDs 1 to 4 as the bytes of four places, and LEDs 5 to 8.
+pub(crate) fn low_bytes(on: u8, slow: u8, fast: u8) -> [u8; 8]
+    ensures { λ r. ⌜ r ≡ wordBytes (laneWord (ledBy on slow fast) 0) ⌝ }
+{
+    word_bytes(low_leds(on, slow, fast))
+}
+
+pub(crate) fn high_bytes(on: u8, slow: u8, fast: u8) -> [u8; 8]
+    ensures { λ r. ⌜ r ≡ wordBytes (laneWord (ledBy on slow fast) 4) ⌝ }
+{
+    word_bytes(high_leds(on, slow, fast))
 }
 
 pub fn leds_by(on: u8, slow: u8, fast: u8) -> [u8; 8]
     ensures { λ r. ⌜ r ≡ tab 8 (ledBy on slow fast) ⌝ }
 {
-    [
-        led_by(on, slow, fast, 0),
-        led_by(on, slow, fast, 1),
-        led_by(on, slow, fast, 2),
-        led_by(on, slow, fast, 3),
-        led_by(on, slow, fast, 4),
-        led_by(on, slow, fast, 5),
-        led_by(on, slow, fast, 6),
-        led_by(on, slow, fast, 7),
-    ]
+    let a = low_bytes(on, slow, fast);
+    let b = high_bytes(on, slow, fast);
+    [a[0], a[2], a[4], a[6], b[0], b[2], b[4], b[6]]
 }

@@ -1,7 +1,8 @@
 // What a run of a fixed number of places says, heard by the module in a slot: first the places as they are go into the log. Each looks first whether its
 // places lie in a record of the picture, so that it asks nothing of its caller; a caller that knows it pays nothing for that.
 use crate::leds::bit;
-use crate::leds::leds_by;
+use crate::leds::high_bytes;
+use crate::leds::low_bytes;
 use places::LEDS;
 use places::YEAR;
 use shape::SIZE;
@@ -12,6 +13,7 @@ use stores::lies;
 use stores::note;
 use stores::put_build;
 use stores::put_pair;
+use stores::put_row;
 use stores::save;
 ghost use mathlib.Core.Path.{_≡_};
 ghost use mathlib.Core.List.{[], _∷_};
@@ -133,11 +135,12 @@ pub fn tell_leds(picture: &mut [u8], slot: u8, on: u8, slow: u8, fast: u8)
     if !lies(picture.len(), slot, LEDS, 8) {
         return;
     }
-    let v = leds_by(on, slow, fast);
+    let low = low_bytes(on, slow, fast);
+    let high = high_bytes(on, slow, fast);
     save(picture, slot, LEDS);
     let at = place_at(slot, LEDS);
-    put_four(picture, at, v[0], v[1], v[2], v[3]);
-    put_four(picture, at + 8, v[4], v[5], v[6], v[7]);
+    put_row(picture, at, low);
+    put_row(picture, at + 8, high);
     step_on(picture);
 }
 

@@ -1,7 +1,7 @@
 -- Places that lie in a record: what a guard shows, and what is done behind it.
 --     Within, within     the facts behind the guard
 --     lies-true          the guard of such places
---     saved-in, noted-in behind it
+--     saved-in, noted-in, stored-in    behind it
 -- Assumes nothing.
 use Prim.Native.Nat.{ℕ, _+_, _≤_, _<_}
 use native.Mathlib.Omega.{arith}
@@ -15,6 +15,7 @@ use Rattle.laws.proofs.Testing.{and-both}
 use Rattle.places.specs.Places.{places}
 use Rattle.shape.specs.Limits.{room}
 use Rattle.shape.specs.Layout.{size}
+use Rattle.stores.specs.Stores.{stored, storedIn}
 use Rattle.stores.specs.Log.{liesIn, noted, notedIn, saved, savedIn}
 
 pub record Within (bytes s start n : ℕ) : Type 0 where
@@ -38,3 +39,7 @@ noted-in b offset l = rw (le-ltb (length b) size l)
 pub saved-in : (b : List ℕ) (s start : ℕ) → size ≤ length b → s < room → start < places → savedIn b s start ≡ saved b s start
 unfolding savedIn
 saved-in b s start l m e = rw (lies-true (length b) s start 1 l m (omega arith))
+
+pub stored-in : (b : List ℕ) (o : ℕ) (row : List ℕ) → o + 8 ≤ length b → storedIn b o row ≡ stored b o row 8
+unfolding storedIn
+stored-in b o row l = rw (le-leb (o + 8) (length b) l)

@@ -1,7 +1,9 @@
 -- Bytes stored and copied. A store past the end stores nothing, and a byte past the end reads as 0. Assumes nothing.
 use Prim.Native.Nat.{ℕ, zero, suc, _+_, _*_}
+use mathlib.Core.Bool.{cond}
 use mathlib.Core.List.{List, [], _∷_}
-use lib.ListN.{getD, set}
+use lib.Dec.{leb}
+use lib.ListN.{length, getD, set}
 use Rattle.places.specs.Runs.{Saying, silent, asks, tells}
 
 -- the two bytes of a place
@@ -35,6 +37,10 @@ blanked b o (suc n) = blankPair (blanked b o n) (o + 2 * n)
 unfoldable pub stored : List ℕ → ℕ → List ℕ → ℕ → List ℕ
 stored b o row zero = b
 stored b o row (suc n) = set (stored b o row n) (o + n) (getD row n 0)
+
+-- eight bytes stored from o, where they have room
+unfoldable pub storedIn : List ℕ → ℕ → List ℕ → List ℕ
+storedIn b o row = cond (leb (o + 8) (length b)) (stored b o row 8) b
 
 -- n bytes copied, one after the other
 abbrev pub copyOne : List ℕ → ℕ → ℕ → List ℕ

@@ -11,7 +11,7 @@ ghost use Rattle.laws.specs.Tab.{tab};
 ghost use Rattle.places.specs.Places.{yearPlace};
 ghost use Rattle.places.specs.Runs.{tells};
 ghost use Rattle.shape.specs.Layout.{placeAt};
-ghost use Rattle.stores.specs.Stores.{pair, written, stored, copied};
+ghost use Rattle.stores.specs.Stores.{pair, written, stored, storedIn, copied};
 ghost use Rattle.stores.specs.Log.{numberBytes, numberAt};
 
 // The two bytes of a place: its value and 0, or 0 and 1 where it is not heard.
@@ -62,6 +62,19 @@ fn store_row(s: &mut [u8], at: usize, row: [u8; 8])
     s[at + 5] = row[5];
     s[at + 6] = row[6];
     s[at + 7] = row[7];
+}
+
+// Eight bytes, where they have room.
+pub fn put_row(s: &mut [u8], at: usize, row: [u8; 8])
+    ensures { λ _. ⌜ now (s .exit) ≡ storedIn (now (s .entry)) at row ⌝ }
+{
+    if s.len() < 8 {
+        return;
+    }
+    if s.len() - 8 < at {
+        return;
+    }
+    store_row(s, at, row);
 }
 
 // The bytes of eight places, copied at least so far on or back.

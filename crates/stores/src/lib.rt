@@ -7,6 +7,7 @@ mod entries;
 pub use back::step_back;
 pub use bytes::put_build;
 pub use bytes::put_pair;
+pub use bytes::put_row;
 pub use entries::DID_ENTER;
 pub use entries::DID_NOTHING;
 pub use entries::lies;

@@ -1,4 +1,4 @@
--- What the arms are called with, what they ensure, and the bytes that they lay. Assumes nothing.
+-- A STEP OF A PROOF, which no promise cites: what the arms are called with, what they ensure, and the bytes that they lay. Assumes nothing.
 use Prim.Native.Nat.{ℕ, _+_, _≤_, _<_}
 use mathlib.Core.Path.{_≡_}
 use mathlib.Core.Bool.{Bool, _&&_}

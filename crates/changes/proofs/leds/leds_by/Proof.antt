@@ -1,12 +1,16 @@
 -- `changes::leds::leds_by` meets its contract. Assumes nothing.
-use borrow.Author.Needs.{needs}
+use mathlib.Core.Path.{_∙_}
 use Rattle.laws.specs.Tab.{tab}
+use Rattle.changes.proofs.Lanes.{led-bytes}
+use borrow.Author.Needs.{needs}
 use Rattle.changes.proofs.leds.leds_by.Statement.{statement}
 use Rattle.changes.proofs.leds.leds_by.Tie as tie
 
 returns : tie.Need-returns
 unfolding tab
-returns c = rw (c .before .before .before .before .before .before .before .led-by .ensures, c .before .before .before .before .before .before .led-by2 .ensures, c .before .before .before .before .before .led-by3 .ensures, c .before .before .before .before .led-by4 .ensures, c .before .before .before .led-by5 .ensures, c .before .before .led-by6 .ensures, c .before .led-by7 .ensures, c .led-by8 .ensures)
+returns c =
+    let a = c .before .before .args in
+    rw (c .before .low-bytes .ensures ∙ led-bytes (a .on) (a .slow) (a .fast) 0, c .high-bytes .ensures ∙ led-bytes (a .on) (a .slow) (a .fast) 4)
 
 pub leds-by-spec : {M : Type 1} → statement M
 leds-by-spec =
@@ -14,10 +18,12 @@ leds-by-spec =
     (tie.spec
     (λ c κs. search needs)
     (λ c κs. search needs)
-    (λ c κs. search needs)
-    (λ c κs. search needs)
-    (λ c κs. search needs)
-    (λ c κs. search needs)
-    (λ c κs. search needs)
-    (λ c κs. search needs)
+    (λ c. search needs)
+    (λ c. search needs)
+    (λ c. search needs)
+    (λ c. search needs)
+    (λ c. search needs)
+    (λ c. search needs)
+    (λ c. search needs)
+    (λ c. search needs)
     returns)

@@ -1,0 +1,31 @@
+-- `changes::leds::high_leds` meets its contract. Assumes nothing.
+use native.Mathlib.Omega.{arith}
+use mathlib.Core.Path.{_∙_}
+use Rattle.changes.proofs.Lanes.{lanes}
+use borrow.Author.Needs.{needs}
+use Rattle.changes.proofs.leds.high_leds.Statement.{statement}
+use Rattle.changes.proofs.leds.high_leds.Tie as tie
+
+states-requires : tie.Need-states-requires
+states-requires c κs =
+    let a = c .before .before .before .before .args in
+    let l = lanes (a .on) (a .slow) (a .fast) (omega arith) 4 (omega arith) in
+    rw (c .before .before .before .high-lanes .ensures, c .before .before .high-lanes2 .ensures, c .before .high-lanes3 .ensures, c .high-lanes4 .ensures) (l .small-on, l .small-slow, l .small-fast, l .below-fast)
+
+returns : tie.Need-returns
+returns c =
+    let a = c .before .before .before .before .before .args in
+    c .states .ensures ∙ rw (c .before .before .before .before .high-lanes .ensures, c .before .before .before .high-lanes2 .ensures, c .before .before .high-lanes3 .ensures, c .before .high-lanes4 .ensures) (lanes (a .on) (a .slow) (a .fast) (omega arith) 4 (omega arith) .sum)
+
+pub high-leds-spec : {M : Type 1} → statement M
+high-leds-spec =
+    tie.close
+    (tie.spec
+    (λ c. search needs)
+    (λ c. search needs)
+    (λ c κs. search needs)
+    (λ c κs. search needs)
+    (λ c κs. search needs)
+    (λ c κs. search needs)
+    states-requires
+    returns)
