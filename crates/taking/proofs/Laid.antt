@@ -2,23 +2,20 @@
 --     stored-twelve      a frame's bytes, stored by four
 --     cell-laid, block-laid, name-laid, status-laid     what each reply is laid as
 -- Assumes nothing.
-use Prim.Native.Nat.{ℕ, suc, _+_, _*_, _/_, _%_, _≤_, _<_}
+use Prim.Native.Nat.{ℕ, suc, _+_, _/_, _%_, _≤_}
 use native.Mathlib.Omega.{arith}
 use mathlib.Core.Path.{_≡_, refl, sym, ap, _∙_}
-use mathlib.Core.Bool.{Bool, true}
+use mathlib.Core.Bool.{true}
 use mathlib.Core.List.{List, [], _∷_}
 use lib.ListN.{getD, set}
 use lib.Seq.{sets}
 use borrow.Author.Tests.{le-leb}
 use Rattle.kinds.specs.Bits.{oneBit}
-use Rattle.kinds.specs.Types.{vmb8ir, low, lineOf, rowsOf, rowFor}
-use Rattle.frame.specs.Bytes.{dataOf}
-use Rattle.frame.specs.declared.bytes.Data.{Data}
+use Rattle.kinds.specs.Types.{lineOf, rowsOf}
 use Rattle.frame.specs.declared.messages.Command.{Command}
-use Rattle.frame.specs.declared.messages.Command.the-variants.{CellTold, BlockTold, NameOne, NameTwo, NameThree, InputStatus}
-use Rattle.fields.specs.Fields.{fault, locationFault}
-use Rattle.codec.specs.Encoding.{encode}
-use Rattle.codec.specs.Writing.{writeRefusal, writtenAs, commandWritten, writing}
+use Rattle.frame.specs.declared.messages.Command.the-variants.{CellTold, BlockTold, InputStatus}
+use Rattle.fields.specs.Fields.{locationFault}
+use Rattle.codec.specs.Writing.{writtenAs, commandWritten, writing}
 use Rattle.laws.proofs.Stores.{sets-append}
 use Rattle.bench.specs.Sending.{replyBytes, allBytes}
 use Rattle.bench.proofs.Storing.{one-reply, three-replies}

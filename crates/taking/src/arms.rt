@@ -1,5 +1,6 @@
 // Frames taken at one look: each function is called for its one command, of lowest priority and for the bench's own address. A frame that fits its row,
 // with allowed fields and room for its replies, is not read as a message; every other goes the general way, whose answer is the whole answer.
+use crate::laying::BLOCKS;
 use crate::laying::tell_all;
 use crate::laying::tell_block;
 use crate::laying::tell_cell;
@@ -11,6 +12,7 @@ use bench::set_all;
 use bench::set_block;
 use bench::set_cell;
 use bench::set_some;
+use codec::FRAME_SIZE;
 use frame::Location;
 use kinds::one_bit;
 use laws::both;
@@ -18,20 +20,16 @@ use laws::byte_at;
 use laws::wide16;
 use replies::ADDRESS_AT;
 ghost use mathlib.Core.Path.{_≡_};
-ghost use mathlib.Core.Bool.{_&&_};
 ghost use Prim.Native.Nat.{_+_, _≤_};
-ghost use lib.Dec.{eqb};
-ghost use lib.ListN.{length};
-ghost use Rattle.kinds.specs.Bits.{oneBit};
 ghost use Rattle.frame.specs.Bytes.{byte};
 ghost use Rattle.taking.specs.Arms.{Ours, Took, located};
 
 // The room for one reply, for a name's three, and for all the cells.
-const ONE: usize = 12;
+const ONE: usize = FRAME_SIZE as usize;
 
-const THREE: usize = 36;
+const THREE: usize = 3 * ONE;
 
-const ALL: usize = 768;
+const ALL: usize = BLOCKS as usize * ONE;
 
 fn located(data: &[u8], count: usize, last: u8) -> bool
     ensures { λ r. ⌜ r ≡ located count last (now («data» .entry)) ⌝ }

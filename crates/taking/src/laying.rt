@@ -1,5 +1,7 @@
 // Replies laid into the buffer as the writer would write them, without a message: what it would test is known here.
+use codec::FRAME_SIZE;
 use frame::Data;
+use frame::LOW;
 use laws::byte_at;
 use laws::wide32;
 use replies::leds_shown;
@@ -18,15 +20,16 @@ ghost use Rattle.bench.specs.Sending.{replyBytes, allBytes};
 ghost use Rattle.taking.specs.Arms.{laid, sixOf, fourOf};
 
 // The identifier of lowest priority and address 0.
-pub(crate) const LOWEST: u32 = 1536;
+pub(crate) const LOWEST: u32 = 512 * LOW;
 
 // The first cell of a bench.
 const CELLS: usize = 256;
 
 // Twelve bytes a frame.
-const FRAME: usize = 12;
+const FRAME: usize = FRAME_SIZE as usize;
 
-const BLOCKS: u8 = 64;
+// How many blocks of four all the cells are.
+pub(crate) const BLOCKS: u8 = 64;
 
 fn put_four(s: &mut [u8], at: usize, a: u8, b: u8, c: u8, d: u8)
     requires { ⌜ at + 4 ≤ length (now s) ⌝ }
