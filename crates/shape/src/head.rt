@@ -46,11 +46,15 @@ pub fn next_of(picture: &[u8]) -> u8
     byte_at(picture, NEXT_AT) % RING
 }
 
-// Whether a slot is a module's: one comparison with the smaller of two numbers, by which a byte of a listed slot needs no guard.
+// Whether a slot is a module's. The room is tested on its own, so that a byte of a listed slot needs no guard.
 fn is_listed(picture: &[u8], slot: u8) -> bool
     ensures { λ r. ⌜ r ≡ ltb slot (modulesOf (now (picture .entry))) ⌝ }
 {
-    slot < modules_of(picture)
+    if slot < ROOM {
+        slot < byte_at(picture, COUNT_AT)
+    } else {
+        false
+    }
 }
 
 // What the table says is believed where it is a module's slot and that module has the address.
