@@ -1,7 +1,7 @@
-// The states of an LED, and their numbers.
+// The numbers of an LED's states.
 use frame::Glow;
 ghost use mathlib.Core.Path.{_≡_};
-ghost use Rattle.places.specs.Runs.{glowNumber, glowBy};
+ghost use Rattle.places.specs.Runs.{glowNumber};
 
 pub fn glow_number(g: Glow) -> u8
     ensures { λ r. ⌜ r ≡ glowNumber g ⌝ }
@@ -12,23 +12,5 @@ pub fn glow_number(g: Glow) -> u8
         Glow::Slow => 2,
         Glow::Fast => 3,
         Glow::VeryFast => 4,
-    }
-}
-
-// On if the on bit is set; else very fast if both others are; else slow, fast or off.
-pub fn glow_by(on: u8, slow: u8, fast: u8) -> Glow
-    ensures { λ r. ⌜ r ≡ glowBy on slow fast ⌝ }
-{
-    if on == 1 {
-        return Glow::On;
-    }
-    if slow == 1 {
-        if fast == 1 {
-            Glow::VeryFast
-        } else {
-            Glow::Slow
-        }
-    } else {
-        if fast == 1 { Glow::Fast } else { Glow::Off }
     }
 }

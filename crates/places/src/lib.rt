@@ -2,7 +2,6 @@
 mod leds;
 mod places;
 
-pub use leds::glow_by;
 pub use leds::glow_number;
 pub use places::BLINDS;
 pub use places::LEDS;
@@ -11,8 +10,6 @@ pub use places::PLACES;
 pub use places::WEEK;
 pub use places::YEAR;
 pub use places::blind_asked;
-pub use places::blind_place;
-pub use places::blind_state;
 pub use places::cell_place;
 pub use places::character_place;
 pub use places::has_cell;

@@ -4,10 +4,8 @@ use frame::Location;
 use kinds::VMB1BL;
 use kinds::VMB2BL;
 use kinds::VMB8IR;
-use kinds::blind_of;
 use kinds::extent_of;
 use kinds::names_in_memory;
-use kinds::up_bit;
 use laws::both;
 use laws::wide32;
 ghost use mathlib.Core.Path.{_≡_};
@@ -16,7 +14,6 @@ ghost use Prim.Native.Nat.{_+_, _-_, _≤_};
 ghost use lib.Dec.{ltb};
 ghost use Rattle.kinds.specs.Types.{extentOf};
 ghost use Rattle.places.specs.Places.{ledAsked, blindAsked, hasName, within, nowhere, firstCharacter, characterPlace, cellPlace};
-ghost use Rattle.places.specs.Runs.{namedBlind, blindState};
 
 // How many places there are, and the number that stands for no place.
 pub const PLACES: usize = 512;
@@ -73,22 +70,6 @@ pub fn character_place(kind: u8, name: u8, i: u8) -> u32
     ensures { λ r. ⌜ r ≡ characterPlace kind name i ⌝ }
 {
     first_character(kind) + NAME_LENGTH * from_zero(name) + from_zero(i)
-}
-
-// Where the state of the blind lies that a byte stands for.
-pub fn blind_place(kind: u8, channel: u8) -> u32
-    ensures { λ r. ⌜ r ≡ namedBlind kind channel ⌝ }
-{
-    let n = blind_of(wide32(kind), channel);
-    BLINDS + from_zero(n)
-}
-
-// What byte 4 of its status says of it: 0 off, 1 up, 2 down.
-pub fn blind_state(kind: u8, channel: u8, state: u8) -> u8
-    ensures { λ r. ⌜ r ≡ blindState kind channel state ⌝ }
-{
-    let up = up_bit(wide32(kind), channel);
-    state / up
 }
 
 pub fn cell_place(kind: u8, location: Location) -> u32
