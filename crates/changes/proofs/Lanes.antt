@@ -1,5 +1,5 @@
 -- Four LEDs at once, in the four 16-bit numbers of a word.
---     low-lanes, high-lanes     the bits of a byte, from its product
+--     lane-bits                 the bits of a byte, from its product
 --     Lanes, lanes              four states, from four bits of each byte
 --     led-bytes                 the bytes of such a word are the states, each with a zero behind it,
 --     leds-written              and stored they are four places told
@@ -8,6 +8,7 @@ use Prim.Native.Nat.{ℕ, zero, suc, _+_, _-_, _*_, _/_, _%_, _^_, _<_, _≤_}
 use native.Mathlib.Omega.{arith}
 use native.Mathlib.Nat.{add-zero, mod-lt}
 use mathlib.Core.Path.{_≡_, refl, sym, _∙_}
+use mathlib.Core.Bool.{Bool}
 use mathlib.Core.List.{List, [], _∷_}
 use lib.Bits.{bitAnd, and-shr, and-mod, and-le-r}
 use lib.Dec.{eqb}
@@ -19,14 +20,13 @@ use Rattle.places.specs.Runs.{bit, glowNumber, glowBy, ledBy, tells}
 use Rattle.stores.specs.Stores.{putAt, written, stored}
 use Rattle.changes.specs.Lanes.{laneWord, wordBytes}
 
--- ---- the bits of a byte, side by side: one test of all bytes each
-pub low-lanes : (x : ℕ) → x < 256 → bitAnd (x * 0x0000200040008001) 0x0001000100010001 ≡ laneWord (bit x) 0
-unfolding laneWord
-low-lanes x h = eqb-true _ _ (below (λ x. eqb (bitAnd (x * 0x0000200040008001) 0x0001000100010001) (laneWord (bit x) 0)) 256 refl x h)
+-- ---- four bits of a byte, side by side: one test of all bytes from each bit on
+abbrev laneTest : ℕ → ℕ → Bool
+laneTest k x = eqb (bitAnd (x * 0x0000200040008001 / 2 ^ k) 0x0001000100010001) (laneWord (bit x) k)
 
-pub high-lanes : (x : ℕ) → x < 256 → bitAnd (x * 0x0000200040008001 / 16) 0x0001000100010001 ≡ laneWord (bit x) 4
+pub lane-bits : (x : ℕ) → x < 256 → (k : ℕ) → k ≤ 4 → bitAnd (x * 0x0000200040008001 / 2 ^ k) 0x0001000100010001 ≡ laneWord (bit x) k
 unfolding laneWord
-high-lanes x h = eqb-true _ _ (below (λ x. eqb (bitAnd (x * 0x0000200040008001 / 16) 0x0001000100010001) (laneWord (bit x) 4)) 256 refl x h)
+lane-bits x h k l = eqb-true _ _ (below (laneTest k) 256 (below (λ k. allBelow (laneTest k) 256) 5 refl k (omega arith)) x h)
 
 -- ---- one bit
 bit-small : (x i : ℕ) → bit x i < 2

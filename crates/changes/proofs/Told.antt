@@ -1,5 +1,5 @@
 -- Laws of places told that the code's proofs cite.
---     written-also               places written in two goes
+--     written-also, written-four places written in two goes, and four one after the other
 --     has-room                   what the guard shows
 --     left-alone, told-all       a run behind its guard: nothing is done, and from what the calls did
 --     told-in                    a run that lies in a record is told
@@ -41,6 +41,15 @@ pub written-also :
     y ≡ written x (o + 2 * m) (take n (drop m row)) →
     y ≡ written b o (take (m + n) row)
 written-also b o row m n p q = q ∙ rw p (written-on b o row m n)
+
+pub written-four :
+    (b : List ℕ) (o : ℕ) (row : List Saying) {x y z w : List ℕ} →
+    x ≡ written b o (take 1 row) →
+    y ≡ written x (o + 2) (take 1 (drop 1 row)) →
+    z ≡ written y (o + 4) (take 1 (drop 2 row)) →
+    w ≡ written z (o + 6) (take 1 (drop 3 row)) →
+    w ≡ written b o (take 4 row)
+written-four b o row p q r t = written-also b o row 3 1 (written-also b o row 2 1 (written-also b o row 1 1 p q) r) t
 
 -- ---- behind the guard there is room for all the places
 pub has-room : (bytes s start n : ℕ) {lies : Bool} → lies ≡ liesIn bytes s start n → not lies ≡ false → {o m : ℕ} → o ≡ placeAt s start → m ≡ bytes → o + 2 * n ≤ m

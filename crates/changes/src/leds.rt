@@ -19,18 +19,12 @@ const FIFTEEN_APART: u64 = 0x0000200040008001;
 // Bit 0 of each of four 16-bit numbers.
 const LOWEST: u64 = 0x0001000100010001;
 
-// Bits 0 to 3 of a byte, each as a 16-bit number.
-fn low_lanes(x: u8) -> u64
-    ensures { λ r. ⌜ r ≡ laneWord (bit x) 0 ⌝ }
+// Four bits of a byte, from bit `from` on, each as a 16-bit number.
+fn lanes(x: u8, from: u32) -> u64
+    requires { ⌜ from ≤ 4 ⌝ }
+    ensures { λ r. ⌜ r ≡ laneWord (bit x) from ⌝ }
 {
-    (x as u64 * FIFTEEN_APART) & LOWEST
-}
-
-// Bits 4 to 7.
-fn high_lanes(x: u8) -> u64
-    ensures { λ r. ⌜ r ≡ laneWord (bit x) 4 ⌝ }
-{
-    (x as u64 * FIFTEEN_APART / 16) & LOWEST
+    (x as u64 * FIFTEEN_APART >> from) & LOWEST
 }
 
 // Four states at once: on is 1, slow 2, fast 3, and slow with fast 4. The difference is of the kind that may wrap, although it never does: of any
@@ -42,31 +36,18 @@ fn states(on: u64, slow: u64, fast: u64, both: u64) -> u64
     std::num::wrapping_sub_u64(on + 2 * slow + 3 * fast, both)
 }
 
-// LEDs 1 to 4. Those that are on blink neither slowly nor fast.
-fn low_leds(on: u8, slow: u8, fast: u8) -> u64
-    ensures { λ r. ⌜ r ≡ laneWord (ledBy on slow fast) 0 ⌝ }
+// Four LEDs, from the one of bit `from` on. Those that are on blink neither slowly nor fast.
+fn four_leds(on: u8, slow: u8, fast: u8, from: u32) -> u64
+    requires { ⌜ from ≤ 4 ⌝ }
+    ensures { λ r. ⌜ r ≡ laneWord (ledBy on slow fast) from ⌝ }
 {
     let slowly = slow & (255 - on);
     let quickly = fast & (255 - on);
     states(
-        low_lanes(on),
-        low_lanes(slowly),
-        low_lanes(quickly),
-        low_lanes(slowly & quickly),
-    )
-}
-
-// LEDs 5 to 8.
-fn high_leds(on: u8, slow: u8, fast: u8) -> u64
-    ensures { λ r. ⌜ r ≡ laneWord (ledBy on slow fast) 4 ⌝ }
-{
-    let slowly = slow & (255 - on);
-    let quickly = fast & (255 - on);
-    states(
-        high_lanes(on),
-        high_lanes(slowly),
-        high_lanes(quickly),
-        high_lanes(slowly & quickly),
+        lanes(on, from),
+        lanes(slowly, from),
+        lanes(quickly, from),
+        lanes(slowly & quickly, from),
     )
 }
 
@@ -85,23 +66,18 @@ fn word_bytes(w: u64) -> [u8; 8]
     ]
 }
 
-// LEDs 1 to 4 as the bytes of four places, and LEDs 5 to 8.
-pub(crate) fn low_bytes(on: u8, slow: u8, fast: u8) -> [u8; 8]
-    ensures { λ r. ⌜ r ≡ wordBytes (laneWord (ledBy on slow fast) 0) ⌝ }
+// Four LEDs as the bytes of four places.
+pub(crate) fn four_bytes(on: u8, slow: u8, fast: u8, from: u32) -> [u8; 8]
+    requires { ⌜ from ≤ 4 ⌝ }
+    ensures { λ r. ⌜ r ≡ wordBytes (laneWord (ledBy on slow fast) from) ⌝ }
 {
-    word_bytes(low_leds(on, slow, fast))
-}
-
-pub(crate) fn high_bytes(on: u8, slow: u8, fast: u8) -> [u8; 8]
-    ensures { λ r. ⌜ r ≡ wordBytes (laneWord (ledBy on slow fast) 4) ⌝ }
-{
-    word_bytes(high_leds(on, slow, fast))
+    word_bytes(four_leds(on, slow, fast, from))
 }
 
 pub fn leds_by(on: u8, slow: u8, fast: u8) -> [u8; 8]
     ensures { λ r. ⌜ r ≡ tab 8 (ledBy on slow fast) ⌝ }
 {
-    let a = low_bytes(on, slow, fast);
-    let b = high_bytes(on, slow, fast);
+    let a = four_bytes(on, slow, fast, 0);
+    let b = four_bytes(on, slow, fast, 4);
     [a[0], a[2], a[4], a[6], b[0], b[2], b[4], b[6]]
 }

@@ -1,8 +1,7 @@
 // What a run of a fixed number of places says, heard by the module in a slot: first the places as they are go into the log. Each looks first whether its
 // places lie in a record of the picture, so that it asks nothing of its caller; a caller that knows it pays nothing for that.
 use crate::leds::bit;
-use crate::leds::high_bytes;
-use crate::leds::low_bytes;
+use crate::leds::four_bytes;
 use places::LEDS;
 use places::YEAR;
 use shape::SIZE;
@@ -135,8 +134,8 @@ pub fn tell_leds(picture: &mut [u8], slot: u8, on: u8, slow: u8, fast: u8)
     if !lies(picture.len(), slot, LEDS, 8) {
         return;
     }
-    let low = low_bytes(on, slow, fast);
-    let high = high_bytes(on, slow, fast);
+    let low = four_bytes(on, slow, fast, 0);
+    let high = four_bytes(on, slow, fast, 4);
     save(picture, slot, LEDS);
     let at = place_at(slot, LEDS);
     put_row(picture, at, low);

@@ -4,12 +4,11 @@ use Prim.Native.Nat.{ℕ, _*_, _<_, _≤_}
 use mathlib.Core.Path.{_≡_}
 use mathlib.Core.Bool.{Bool, true, cond, _&&_, _||_}
 use mathlib.Core.List.{List, [], _∷_}
-use lib.Dec.{eqb, leb}
+use lib.Dec.{eqb}
 use lib.ListN.{length}
 use Rattle.laws.specs.Tests.{among}
-use Rattle.kinds.specs.Bits.{oneBit}
 use Rattle.kinds.specs.Types.{moduleTypes, blindOf}
-use Rattle.fields.specs.Fields.{isBlind, blindStatusFault, fieldRefusal}
+use Rattle.fields.specs.Fields.{isBlind, timeoutAllowed, ledAllowed, blindStatusFault, fieldRefusal}
 use Rattle.places.specs.Runs.{telling, namedBlind, blindState}
 use Rattle.shape.specs.Limits.{room}
 use Rattle.shape.specs.Layout.{size}
@@ -44,7 +43,7 @@ blindIn kind channel = cond (isBlind kind channel) (blindOf kind channel) 0
 
 -- the same of a status, 0 where its byte 3 or its byte 5 is not allowed
 unfoldable pub blindFit : ℕ → ℕ → ℕ → ℕ → ℕ
-blindFit kind channel timeout led = cond (leb timeout 3 && (eqb led 0 || oneBit led)) (blindIn kind channel) 0
+blindFit kind channel timeout led = cond (timeoutAllowed timeout && ledAllowed led) (blindIn kind channel) 0
 
 -- off, up or down, of a blind whose bit for up is `up`
 abbrev pub isState : ℕ → ℕ → Bool

@@ -75,11 +75,18 @@ typeShortFault kind timeouts = unless (timeoutsAllowed kind timeouts) 3 0
 abbrev pub blindStates : ℕ → List ℕ
 blindStates n = 0 ∷ upBit n ∷ 2 * upBit n ∷ []
 
--- EC: byte 2 is a blind, byte 3 is 0 to 3, byte 4 is one of its states, byte 5 is 0 or has one bit
+-- EC's byte 3 is 0 to 3, and byte 5 is 0 or has one bit
+abbrev pub timeoutAllowed : ℕ → Bool
+timeoutAllowed timeout = leb timeout 3
+
+abbrev pub ledAllowed : ℕ → Bool
+ledAllowed led = eqb led 0 || oneBit led
+
+-- EC: byte 2 is a blind, and byte 4 is one of its states
 abbrev pub blindStatusFault : ℕ → ℕ → ℕ → ℕ → ℕ → ℕ
 blindStatusFault kind channel timeout state led =
     unless (isBlind kind channel) 2
-    (unless (leb timeout 3) 3 (unless (among state (blindStates (blindOf kind channel))) 4 (unless (eqb led 0 || oneBit led) 5 0)))
+    (unless (timeoutAllowed timeout) 3 (unless (among state (blindStates (blindOf kind channel))) 4 (unless (ledAllowed led) 5 0)))
 
 -- a byte has the bit, which is one of `bits`; one of the bytes has it
 abbrev pub hasBit : ℕ → ℕ → Bool

@@ -39,7 +39,7 @@ saved b s start = notedAt (copied b (oldAt (nextOf b)) (placeAt s start) oldSize
 abbrev pub liesIn : ℕ → ℕ → ℕ → ℕ → Bool
 liesIn bytes s start n = leb size bytes && (ltb s room && leb (start + n) places)
 
--- the same in any bytes: nothing is done where there is no picture, and where the place lies in no record
+-- a note and a save in any bytes: nothing is done where there is no picture, and for a save where the place lies in no record
 unfoldable pub notedIn : List ℕ → ℕ → List ℕ
 notedIn b offset = cond (short b) b (noted b offset)
 

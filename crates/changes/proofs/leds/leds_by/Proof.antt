@@ -10,7 +10,7 @@ returns : tie.Need-returns
 unfolding tab
 returns c =
     let a = c .before .before .args in
-    rw (c .before .low-bytes .ensures ∙ led-bytes (a .on) (a .slow) (a .fast) 0, c .high-bytes .ensures ∙ led-bytes (a .on) (a .slow) (a .fast) 4)
+    rw (c .before .four-bytes .ensures ∙ led-bytes (a .on) (a .slow) (a .fast) 0, c .four-bytes2 .ensures ∙ led-bytes (a .on) (a .slow) (a .fast) 4)
 
 pub leds-by-spec : {M : Type 1} → statement M
 leds-by-spec =

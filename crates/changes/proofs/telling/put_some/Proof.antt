@@ -4,21 +4,20 @@ use mathlib.Core.List.{[], _∷_}
 use borrow.Author.Needs.{needs}
 use Rattle.stores.specs.Stores.{written}
 use Rattle.places.specs.Runs.{ledIf}
-use Rattle.changes.proofs.Told.{written-also}
+use Rattle.changes.proofs.Told.{written-four}
 use Rattle.changes.proofs.telling.put_some.Statement.{statement}
 use Rattle.changes.proofs.telling.put_some.Tie as tie
 
 returns : tie.Need-returns
 unfolding written
-returns c = let p4 = c .before .before in
+returns c =
+    let p4 = c .before .before in
     let p3 = p4 .before .before .before .before in
     let p2 = p3 .before .before .before .before in
     let p1 = p2 .before .before .before .before in
     let a = p1 .before .before .before .args in
     let led = ledIf (a .mask) (a .value) in
-    let also = written-also (a .picture .now) (a .at) (led (a .i) ∷ led (a .i + 1) ∷ led (a .i + 2) ∷ led (a .i + 3) ∷ []) in
-    let q2 = also 1 1 _ _ (p1 .put-if .ensures) (p2 .put-if2 .ensures) in
-    also 3 1 _ _ (also 2 1 _ _ q2 (p3 .put-if3 .ensures)) (p4 .put-if4 .ensures)
+    written-four (a .picture .now) (a .at) (led (a .i) ∷ led (a .i + 1) ∷ led (a .i + 2) ∷ led (a .i + 3) ∷ []) (p1 .put-if .ensures) (p2 .put-if2 .ensures) (p3 .put-if3 .ensures) (p4 .put-if4 .ensures)
 
 pub put-some-spec : {M : Type 1} → statement M
 put-some-spec =

@@ -33,7 +33,7 @@ returns-2 c =
     let row : List Saying = led 0 ∷ led 1 ∷ led 2 ∷ led 3 ∷ led 4 ∷ led 5 ∷ led 6 ∷ led 7 ∷ [] in
     let one = first .put-row .ensures ∙ stored-in b at _ (omega (arith, room)) in
     let two = second .put-row2 .ensures ∙ stored-in (first .put-row .last .0) (at + 8) _ (omega (arith, room, first .put-row .kept .0)) in
-    let eight = written-also b at row 4 4 (leds-written b at (a .on) (a .slow) (a .fast) 0 (low .low-bytes .ensures) one) (leds-written _ (at + 8) (a .on) (a .slow) (a .fast) 4 (c .before .before .before .before .before .before .before .before .before .before .before .before .before .before .before .before .before .high-bytes .ensures) two) in
+    let eight = written-also b at row 4 4 (leds-written b at (a .on) (a .slow) (a .fast) 0 (low .four-bytes .ensures) one) (leds-written _ (at + 8) (a .on) (a .slow) (a .fast) 4 (c .before .before .before .before .before .before .before .before .before .before .before .before .before .before .before .before .before .four-bytes2 .ensures) two) in
     told-all _ _ _ (lies .lies .ensures) (low .before .if1 .left) (omega arith) (save .save .ensures) (place .place-at .ensures) eight (c .before .before .step-on .ensures)
 
 pub tell-leds-spec : {M : Type 1} → statement M
