@@ -21,8 +21,8 @@ use Rattle.replay.specs.Window.{partAnswer, partPicture, partWindow}
 use Rattle.texts.specs.Listing.{listingAnswer, listingBytes}
 use Rattle.bench.specs.Making.{making}
 use Rattle.taking.specs.Taking.{Outcome, taking}
+use Rattle.sight.specs.Words.{takenWord}
 use Rattle.results.specs.Words.{outcomeWord, answerWord}
-use Rattle.velbus.specs.Benches.{takenWord}
 use Rattle.velbus.specs.Recordings.{putWord}
 use Rattle.velbus.specs.Frames.{readWord, readInto, writeWord, writeInto}
 

@@ -15,7 +15,6 @@ use Rattle.bench.specs.Sending.{allBytes}
 use Rattle.verdicts.specs.Verdicts.{judged}
 use Rattle.taking.specs.Taking.{Outcome, kept, takenWith, given, outcomeOf, taking}
 use Rattle.verdicts.specs.declared.verdicts.Verdict.{Verdict}
-use Rattle.taking.specs.Arms.{Took}
 use Rattle.taking.specs.declared.taking.Taken.{Taken}
 use Rattle.taking.specs.declared.taking.Taken.the-variants as taken
 
@@ -51,6 +50,3 @@ unfolding taking
 by-judged b s buffer i remote j k t b′ buffer′ h e f g =
     let q : taking b i remote s buffer ≡ outcomeOf k b buffer = rw (le-ltb (length b) benchSize h, ← e, f) in
     (g .0 ∙ ap (λ (o : Outcome). o .answer) (sym q), (g .1 .0 ∙ ap (λ (o : Outcome). o .bench) (sym q), g .1 .1 ∙ ap (λ (o : Outcome). o .buffer) (sym q)))
-
-pub took : {b s buffer b′ buffer′ : List ℕ} {i remote : ℕ} {t : Taken} → Gives t b′ buffer′ (taking b i remote s buffer) → Took b i remote s buffer t b′ buffer′
-took g = record { answered = g .0; bench-after = g .1 .0; buffer-after = g .1 .1 }

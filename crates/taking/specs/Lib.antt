@@ -1,3 +1,2 @@
--- What a frame for a bench gives; and what the code's arms are called with. Read in this order.
+-- What a frame for a bench gives.
 pub mod Taking
-pub mod Arms

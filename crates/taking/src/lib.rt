@@ -1,6 +1,4 @@
-// A frame taken by a bench: judged, its deed done, and its replies written.
-mod arms;
-mod laying;
+// A frame taken by a bench: read as a message, judged, its deed done, and its replies written.
 mod taking;
 
 pub use taking::Taken;

@@ -1,6 +1,4 @@
 // A frame for the bench.
-use crate::arms::take_own;
-use crate::laying::LOWEST;
 use bench::SIZE;
 use bench::act_on;
 use bench::reply;
@@ -9,7 +7,6 @@ use codec::FRAME_SIZE;
 use frame::Message;
 use laws::TOO_SHORT;
 use laws::byte_at;
-use laws::wide32;
 use replies::ADDRESS_AT;
 use verdicts::Verdict;
 use verdicts::judge;
@@ -18,7 +15,6 @@ ghost use Prim.Native.Nat.{_≤_};
 ghost use lib.ListN.{length};
 ghost use Rattle.replies.specs.Bench.{benchSize};
 ghost use Rattle.taking.specs.Taking.{given, taking};
-ghost use Rattle.taking.specs.Arms.{Took};
 
 // The answer to a frame: the number of replies written, or a refusal, a 9 with its byte.
 pub enum Taken {
@@ -43,7 +39,7 @@ fn give(bench: &mut [u8], m: Message, replies: &mut [u8]) -> Taken
 }
 
 // Any frame for a whole bench, read as a message.
-pub(crate) fn take_any(
+fn take_any(
     bench: &mut [u8],
     identifier: u32,
     remote: u32,
@@ -51,7 +47,9 @@ pub(crate) fn take_any(
     replies: &mut [u8],
 ) -> Taken
     requires { ⌜ benchSize ≤ length (now bench) ⌝ }
-    ensures { λ r. ⌜ Took (now (bench .entry)) identifier remote (now («data» .entry)) (now (replies .entry)) r (now (bench .exit)) (now (replies .exit)) ⌝ }
+    ensures { λ r. ⌜ r ≡ taking (now (bench .entry)) identifier remote (now («data» .entry)) (now (replies .entry)) .answer ⌝ }
+    ensures { λ _. ⌜ now (bench .exit) ≡ taking (now (bench .entry)) identifier remote (now («data» .entry)) (now (replies .entry)) .bench ⌝ }
+    ensures { λ _. ⌜ now (replies .exit) ≡ taking (now (bench .entry)) identifier remote (now («data» .entry)) (now (replies .entry)) .buffer ⌝ }
 {
     let v = judge(byte_at(bench, ADDRESS_AT), identifier, remote, data);
     match v {
@@ -76,12 +74,5 @@ pub fn bench_take(
     if bench.len() < SIZE {
         return Taken::Refused(TOO_SHORT);
     }
-    let address = byte_at(bench, ADDRESS_AT);
-    if identifier != LOWEST + 2 * wide32(address) {
-        return take_any(bench, identifier, remote, data, replies);
-    }
-    if remote != 0 {
-        return take_any(bench, identifier, remote, data, replies);
-    }
-    take_own(bench, address, identifier, data, replies)
+    take_any(bench, identifier, remote, data, replies)
 }

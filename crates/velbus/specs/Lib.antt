@@ -1,4 +1,3 @@
 pub mod Frames
 pub mod Recordings
 pub mod Statements
-pub mod Benches

@@ -1,22 +1,11 @@
 // A bench module to teach on, in lent bytes.
 use results::outcome_word;
-use results::refused;
-use taking::Taken;
 ghost use mathlib.Core.Path.{_≡_};
 ghost use Rattle.replies.specs.Bench.{benchSize};
 ghost use Rattle.bench.specs.Making.{making};
 ghost use Rattle.taking.specs.Taking.{taking};
+ghost use Rattle.sight.specs.Words.{takenWord};
 ghost use Rattle.results.specs.Words.{outcomeWord};
-ghost use Rattle.velbus.specs.Benches.{takenWord};
-
-fn taken_word(taken: Taken) -> u32
-    ensures { λ r. ⌜ r ≡ takenWord taken ⌝ }
-{
-    match taken {
-        Taken::Replies(count) => count as u32,
-        Taken::Refused(code) => refused(code),
-    }
-}
 
 #[no_mangle]
 pub extern "C" fn velbus_bench_size() -> u32
@@ -52,5 +41,5 @@ pub extern "C" fn velbus_bench_take(
     ensures { λ _. ⌜ now (bench .exit) ≡ taking (now (bench .entry)) identifier remote (now («data» .entry)) (now (out .entry)) .bench ⌝ }
     ensures { λ _. ⌜ now (out .exit) ≡ taking (now (bench .entry)) identifier remote (now («data» .entry)) (now (out .entry)) .buffer ⌝ }
 {
-    taken_word(taking::bench_take(bench, identifier, remote, data, out))
+    sight::take_word(bench, identifier, remote, data, out)
 }

@@ -7,29 +7,6 @@ use Rattle.taking.proofs.taking.bench_take.Tie as tie
 returns : tie.Need-returns
 returns c = let a = c .before .before .before .before .args in too-short (a .bench .now) (a .«data» .now) (a .replies .now) (a .identifier) (a .remote) (c .if1 .taken)
 
-returns-4 : tie.Need-returns-4
-returns-4 c =
-    let t = c .before .before .before .before .take-own .ensures in
-    rw (c .before .before .before .before .before .before .before .if3 .left) (t .answered, (t .bench-after, t .buffer-after))
-
 pub bench-take-spec : {M : Type 1} → statement M
 bench-take-spec =
-    tie.close
-    (tie.spec
-    returns
-    (λ c κs. search needs)
-    (λ c κs. search needs)
-    (λ c. search needs)
-    (λ c. search needs)
-    (λ c κs. search needs)
-    (λ c. search needs)
-    (λ c. search needs)
-    (λ c. search needs)
-    (λ c κs. search needs)
-    (λ c. search needs)
-    (λ c. search needs)
-    (λ c. search needs)
-    (λ c κs. search needs)
-    (λ c. search needs)
-    (λ c. search needs)
-    returns-4)
+    tie.close (tie.spec returns (λ c κs. search needs) (λ c. search needs) (λ c. search needs) (λ c. search needs))
