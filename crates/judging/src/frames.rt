@@ -22,6 +22,7 @@ use laws::unless;
 use laws::wide32;
 ghost use mathlib.Core.Path.{_≡_};
 ghost use Prim.Native.Nat.{ℕ};
+ghost use lib.Dec.{eqb};
 ghost use Rattle.laws.specs.Refusals.{badIdentifier, sid0Set};
 ghost use Rattle.laws.specs.Tests.{unless};
 ghost use Rattle.frame.specs.Identifiers.{elevenBits};
@@ -56,7 +57,20 @@ fn frame_refusal(kind: u32, identifier: u32, remote: u32, count: usize) -> u16
     0
 }
 
-// The same of a type that may be handed in, whichever it is.
+// Whether there is none of these, at a type that may be handed in: no number is made of a frame that passes.
+pub fn is_frame(identifier: u32, remote: u32, count: usize) -> bool
+    ensures { λ r. ⌜ r ≡ eqb (frameRefusal noType identifier remote count) 0 ⌝ }
+{
+    if !both(identifier <= MOST_IDENTIFIER, identifier % 2 == 0) {
+        return false;
+    }
+    if !well_formed(remote, count) {
+        return false;
+    }
+    known_priority(identifier / 512)
+}
+
+// Which it is.
 pub fn form_refusal(identifier: u32, remote: u32, count: usize) -> u16
     ensures { λ r. ⌜ r ≡ frameRefusal noType identifier remote count ⌝ }
 {

@@ -3,6 +3,7 @@ mod frames;
 mod rows;
 
 pub use frames::form_refusal;
+pub use frames::is_frame;
 pub use frames::judge;
 pub use frames::refusal_unlisted;
 pub use frames::request_refusal;

@@ -6,6 +6,7 @@ use commands::hear_command;
 use frame::TYPE_FRAME;
 use frame::address_of;
 use judging::form_refusal;
+use judging::is_frame;
 use judging::refusal_unlisted;
 use judging::request_refusal;
 use judging::untyped_refusal;
@@ -192,9 +193,8 @@ fn hear_listed(picture: &mut [u8], slot: u8, identifier: u32, remote: u32, data:
     ensures { λ _. ⌜ now (picture .exit) ≡ hearingAt (now (picture .entry)) slot identifier remote (now («data» .entry)) .buffer ⌝ }
 {
     let kind = kind_in(picture, slot);
-    let n = form_refusal(identifier, remote, data.len());
-    if n != 0 {
-        return by_type(kind, n);
+    if !is_frame(identifier, remote, data.len()) {
+        return by_type(kind, form_refusal(identifier, remote, data.len()));
     }
     if remote == 1 {
         return hear_request(picture, slot, kind, identifier, remote, data);
