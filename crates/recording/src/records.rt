@@ -1,17 +1,12 @@
 // The reader of records: gap, word (2 × identifier + remote flag), count, data.
-use crate::limits::LONGEST;
 use crate::limits::MOST_COUNT;
 use crate::limits::MOST_GAP;
 use crate::limits::MOST_WORD;
-use crate::quick::quick_head;
 use groups::Found;
-use laws::MOST_BYTES;
 use numbers::number;
 ghost use mathlib.Core.Path.{_≡_};
-ghost use Prim.Native.Nat.{_+_, _<_};
-ghost use lib.Dec.{leb};
+ghost use Prim.Native.Nat.{_<_};
 ghost use lib.ListN.{length};
-ghost use Rattle.recording.specs.Limits.{longest};
 ghost use Rattle.recording.specs.Record.{cutOffAt, badNumberAt, readCount, readWord, readRecord};
 
 // What reading at an offset finds: a record, whose data are the `len` bytes from `start`, with `next` past it; the end;
@@ -107,51 +102,12 @@ fn read_edge(s: &[u8], at: usize) -> Entry
     }
 }
 
-// The record at `at`, or the end: whether there is any is tested only here.
-fn read_near_end(s: &[u8], at: usize) -> Entry
+// The record at `at`, wherever it ends, or the end: whether there is any is tested only here.
+pub fn read_any(s: &[u8], at: usize) -> Entry
     ensures { λ r. ⌜ r ≡ readRecord (now (s .entry)) at ⌝ }
 {
     if s.len() <= at {
         return Entry::End;
     }
     read_edge(s, at)
-}
-
-// Whether the longest record has room at `at`.
-fn has_room(s: &[u8], at: usize) -> bool
-    ensures { λ r. ⌜ r ≡ leb (at + longest) (length (now (s .entry))) ⌝ }
-{
-    if s.len() < at {
-        return false;
-    }
-    if s.len() - at < LONGEST {
-        return false;
-    }
-    true
-}
-
-// The record at `at`: by the quick way where that leads to one, else by the general way.
-pub fn read_record(s: &[u8], at: usize) -> Entry
-    ensures { λ r. ⌜ r ≡ readRecord (now (s .entry)) at ⌝ }
-{
-    if has_room(s, at) {
-        let head = quick_head(s, at);
-        let count_at = head.next;
-        if count_at != 0 {
-            let len = s[count_at] as usize;
-            if len <= MOST_BYTES {
-                let start = count_at + 1;
-                let next = start + len;
-                return Entry::Record {
-                    gap: head.gap,
-                    identifier: head.word / 2,
-                    remote: head.word % 2,
-                    start,
-                    len,
-                    next,
-                };
-            }
-        }
-    }
-    read_near_end(s, at)
 }

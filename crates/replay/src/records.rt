@@ -43,7 +43,7 @@ pub fn hear_records(picture: &mut [u8], s: &[u8]) -> Replay
     let mut counts: [u64; 2] = [0, 0];
     let mut at: usize = 0;
     loop {
-        match recording::read_record(s, at) {
+        match quick::read_record(s, at) {
             Entry::Record {
                 gap: _,
                 identifier,

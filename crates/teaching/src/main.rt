@@ -200,7 +200,7 @@ fn tell_fault(offset: usize, refusal: u16) {
 
 // The record at an offset; the offset of the next, or one past the end where there is none to come.
 fn one_record(bench: &mut [u8], lesson: &[u8], at: usize, record: u64) -> usize {
-    match recording::read_record(lesson, at) {
+    match quick::read_record(lesson, at) {
         Entry::Record {
             gap,
             identifier,

@@ -51,7 +51,7 @@ fn put_into(room: &mut [u8], r: Reader, data: &[u8]) -> Put {
 
 // Whether bytes are one record, with these numbers and this many bytes of data.
 fn is_record(s: &[u8], r: Reader) -> bool {
-    match recording::read_record(s, 0) {
+    match quick::read_record(s, 0) {
         Entry::Record {
             gap,
             identifier,
@@ -102,7 +102,7 @@ fn broken(offset: usize, refusal: u16) -> Words {
 
 // What stands first in a recording.
 pub(crate) fn recording(s: &[u8]) -> Words {
-    match recording::read_record(s, 0) {
+    match quick::read_record(s, 0) {
         Entry::End => say(b" at its end"),
         Entry::Broken { refusal, offset } => broken(offset, refusal),
         _ => say(b" a record"),

@@ -1,13 +1,13 @@
--- `recording::records::has_room` meets its contract. Assumes nothing.
+-- `quick::records::has_room` meets its contract. Assumes nothing.
 use Prim.Native.Nat.{_+_}
 use mathlib.Core.Path.{sym}
 use native.Mathlib.Omega.{arith}
 use borrow.Author.Needs.{needs}
 use borrow.Author.Tests.{le-leb, lt-leb}
 use lib.ListN.{length}
 use Rattle.recording.specs.Limits.{longest}
-use Rattle.recording.proofs.records.has_room.Statement.{statement}
-use Rattle.recording.proofs.records.has_room.Tie as tie
+use Rattle.quick.proofs.records.has_room.Statement.{statement}
+use Rattle.quick.proofs.records.has_room.Tie as tie
 
 returns : tie.Need-returns
 returns c = let a = c .before .args in sym (lt-leb (a .at + longest) (length (a .s .now)) (omega arith))

@@ -1,12 +1,12 @@
--- `recording::quick::long_gap` meets its contract. Assumes nothing.
+-- `quick::quick::long_gap` meets its contract. Assumes nothing.
 use Prim.Native.Nat.{_+_, _-_, _*_}
 use mathlib.Core.Path.{refl}
 use native.Mathlib.Omega.{arith}
 use borrow.Author.Needs.{needs}
 use Rattle.numbers.proofs.Standing.{stands-three, stands-four, stands-five, nothing-found}
 use Rattle.recording.proofs.Entries.{gap-taken}
-use Rattle.recording.proofs.quick.long_gap.Statement.{statement}
-use Rattle.recording.proofs.quick.long_gap.Tie as tie
+use Rattle.quick.proofs.quick.long_gap.Statement.{statement}
+use Rattle.quick.proofs.quick.long_gap.Tie as tie
 
 returns : tie.Need-returns
 returns c =

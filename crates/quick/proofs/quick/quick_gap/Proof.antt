@@ -1,14 +1,14 @@
--- `recording::quick::quick_gap` meets its contract. Assumes nothing.
+-- `quick::quick::quick_gap` meets its contract. Assumes nothing.
 use Prim.Native.Nat.{_+_, _-_, _*_}
 use mathlib.Core.Path.{refl, ap, _∙_}
 use native.Mathlib.Omega.{arith}
 use borrow.Author.Needs.{needs}
 use Rattle.groups.specs.declared.scan.Found.the-variants.{Value}
 use Rattle.numbers.proofs.Standing.{stands-last, stands-more, stood}
 use Rattle.recording.specs.Limits.{mostGap}
 use Rattle.recording.proofs.Entries.{gap-taken}
-use Rattle.recording.proofs.quick.quick_gap.Statement.{statement}
-use Rattle.recording.proofs.quick.quick_gap.Tie as tie
+use Rattle.quick.proofs.quick.quick_gap.Statement.{statement}
+use Rattle.quick.proofs.quick.quick_gap.Tie as tie
 
 returns : tie.Need-returns
 returns c some =

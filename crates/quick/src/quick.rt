@@ -1,14 +1,14 @@
 // The quick way to a record: where the longest record has room no end needs a test, and a gap is read in place, of however many groups.
 // In any doubt the way is not taken, and the general way judges from the record's first byte on.
-use crate::limits::MOST_WORD;
 use groups::wide;
+use recording::MOST_WORD;
 ghost use mathlib.Core.Path.{_≡_};
 ghost use Prim.Native.Nat.{_+_, _-_, _/_, _%_, _<_, _≤_};
 ghost use lib.ListN.{length, getD};
 ghost use Rattle.groups.specs.declared.scan.Found.the-variants.{Value};
 ghost use Rattle.recording.specs.Limits.{mostGap, mostCount, countGroups, longest};
 ghost use Rattle.groups.specs.Number.{numberAt};
 ghost use Rattle.recording.specs.Record.{readCount, readRecord};
 
 // A number of one group or two, and the offset past it: 0 where there is no such number.
 struct Short {

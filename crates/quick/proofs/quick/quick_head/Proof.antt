@@ -1,14 +1,14 @@
--- `recording::quick::quick_head` meets its contract. Assumes nothing.
+-- `quick::quick::quick_head` meets its contract. Assumes nothing.
 use Prim.Native.Nat.{_-_}
 use mathlib.Core.Path.{refl}
 use native.Mathlib.Omega.{arith}
 use borrow.Author.Needs.{needs}
 use Rattle.numbers.proofs.Standing.{nothing-found}
 use Rattle.recording.specs.Limits.{mostGap, gapGroups}
 use Rattle.recording.proofs.Ranges.{gap-groups}
 use Rattle.recording.proofs.Entries.{fits-at, headed, head-room}
-use Rattle.recording.proofs.quick.quick_head.Statement.{statement}
-use Rattle.recording.proofs.quick.quick_head.Tie as tie
+use Rattle.quick.proofs.quick.quick_head.Statement.{statement}
+use Rattle.quick.proofs.quick.quick_head.Tie as tie
 
 short-number-requires : tie.Need-short-number-requires
 short-number-requires c κs =

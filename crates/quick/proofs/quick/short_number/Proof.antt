@@ -1,4 +1,4 @@
--- `recording::quick::short_number` meets its contract. Assumes nothing.
+-- `quick::quick::short_number` meets its contract. Assumes nothing.
 use Prim.Native.Nat.{_+_, _-_, _*_}
 use mathlib.Core.Path.{refl, ap, _∙_}
 use native.Mathlib.Omega.{arith}
@@ -6,8 +6,8 @@ use borrow.Author.Needs.{needs}
 use lib.ListN.{getD}
 use Rattle.groups.specs.declared.scan.Found.the-variants.{Value}
 use Rattle.numbers.proofs.Standing.{stands-last, stands-more, stood, nothing-found}
-use Rattle.recording.proofs.quick.short_number.Statement.{statement}
-use Rattle.recording.proofs.quick.short_number.Tie as tie
+use Rattle.quick.proofs.quick.short_number.Statement.{statement}
+use Rattle.quick.proofs.quick.short_number.Tie as tie
 
 cast-b : tie.Need-cast-b
 cast-b c = omega (arith, c .before .shared-slice-known .given (c .before .before .args .at))

@@ -1,14 +1,14 @@
--- `recording::records::read_record` meets its contract. Assumes nothing.
+-- `quick::records::read_record` meets its contract. Assumes nothing.
 use Prim.Native.Nat.{_+_, _/_, _%_, _≤_}
 use mathlib.Core.Path.{sym, refl, _∙_}
 use native.Mathlib.Omega.{arith}
 use borrow.Author.Needs.{needs}
 use borrow.Author.Tests.{leb-true}
 use lib.ListN.{length, getD}
 use Rattle.recording.specs.Limits.{mostCount, countGroups, longest}
 use Rattle.recording.proofs.Entries.{counted}
-use Rattle.recording.proofs.records.read_record.Statement.{statement}
-use Rattle.recording.proofs.records.read_record.Tie as tie
+use Rattle.quick.proofs.records.read_record.Statement.{statement}
+use Rattle.quick.proofs.records.read_record.Tie as tie
 
 quick-head-requires : tie.Need-quick-head-requires
 quick-head-requires c κs = let a = c .before .before .before .args in leb-true (a .at + longest) (length (a .s .now)) (sym (c .before .has-room .ensures) ∙ c .if1 .taken)
