@@ -3,15 +3,14 @@
 --     fuel              more steps than there are bytes left change nothing
 --     stops-inside, little-is-left        where a replay stops
 --     one-or-none       a record adds at most 1
---     Tallied, tallied  what it adds to two counts
 -- Assumes nothing.
 use mathlib.Core.Path.{_≡_, refl, sym, ap, _∙_}
-use mathlib.Core.List.{List, [], _∷_}
+use mathlib.Core.List.{List}
 use mathlib.Core.Bool.{Bool, true, false}
 use mathlib.Core.Logic.{_⊎_, inl, inr, ⊎-elim}
 use Prim.Native.Nat.{ℕ, zero, suc, _+_, _-_, _≤_, _<_}
 use native.Mathlib.Omega.{arith}
-use lib.ListN.{length, getD, set, take, drop}
+use lib.ListN.{length, take, drop}
 use borrow.Author.Tests.{ne-eqb}
 use Rattle.laws.specs.Refusals.{badNumber}
 use Rattle.recording.specs.declared.records.Entry.{Entry}
@@ -25,21 +24,6 @@ use Rattle.replay.specs.Statements.{StopsInside, LittleIsLeft}
 pub one-or-none : (t : Bool) → one t ≤ 1
 one-or-none true = omega arith
 one-or-none false = omega arith
-
--- of two counts, of records refused and of those accepted, the one at `accepted` is raised by 1
-pub record Tallied (counts : List ℕ) (accepted : ℕ) (counts′ : List ℕ) : Type 0 where
-  pub heard : getD counts′ 1 0 ≡ getD counts 1 0 + accepted
-  pub refused : getD counts′ 0 0 ≡ getD counts 0 0 + (1 - accepted)
-  pub two : length counts′ ≡ 2
-  pub below : getD counts accepted 0 ≤ getD counts 1 0 + getD counts 0 0
-
-pub tallied : (counts : List ℕ) (accepted : ℕ) → length counts ≡ 2 → accepted ≤ 1 → Tallied counts accepted (set counts accepted (getD counts accepted 0 + 1))
-tallied (x ∷ y ∷ []) zero l h = record { heard = omega arith; refused = omega arith; two = refl; below = omega arith }
-tallied (x ∷ y ∷ []) (suc zero) l h = record { heard = omega arith; refused = omega arith; two = refl; below = omega arith }
-tallied (x ∷ y ∷ []) (suc (suc n)) l h = absurd (omega arith)
-tallied [] accepted l h = absurd (omega arith)
-tallied (x ∷ []) accepted l h = absurd (omega arith)
-tallied (x ∷ y ∷ z ∷ zs) accepted l h = absurd (omega arith)
 
 module _ (hear : Hearing) (s : List ℕ) where
   -- what goes on from a later offset, alike in two ways, goes on alike from here

@@ -4,6 +4,7 @@ use recording::Entry;
 use shape::Outcome;
 use shape::SIZE;
 ghost use mathlib.Core.Path.{_≡_};
+ghost use Prim.Native.Nat.{_+_, _-_, _<_};
 ghost use Rattle.picture.specs.Hearing.{hearing};
 ghost use Rattle.replay.specs.Replay.{one, isDone, heardBy, replayed, replayAnswer, replayPicture};
 
@@ -23,14 +24,15 @@ pub enum Replayed {
     Refused(u16),
 }
 
-// Hears a frame: 1 where it is accepted, else 0.
-fn hear_one(picture: &mut [u8], identifier: u32, remote: u32, data: &[u8]) -> usize
-    ensures { λ r. ⌜ r ≡ one (heardBy (now (picture .entry)) identifier remote (now («data» .entry)) .accepted) ⌝ }
+// Hears a frame, and counts it where it is refused.
+fn hear_one(picture: &mut [u8], identifier: u32, remote: u32, data: &[u8], refused: u64) -> u64
+    requires { ⌜ refused < 18446744073709551615 ⌝ }
+    ensures { λ r. ⌜ r ≡ refused + (1 - one (heardBy (now (picture .entry)) identifier remote (now («data» .entry)) .accepted)) ⌝ }
     ensures { λ _. ⌜ now (picture .exit) ≡ heardBy (now (picture .entry)) identifier remote (now («data» .entry)) .picture ⌝ }
 {
     match picture::hear(picture, identifier, remote, data) {
-        Outcome::Done => 1,
-        Outcome::Refused(_) => 0,
+        Outcome::Done => refused,
+        Outcome::Refused(_) => refused + 1,
     }
 }
 
@@ -39,8 +41,8 @@ pub fn hear_records(picture: &mut [u8], s: &[u8]) -> Replay
     ensures { λ r. ⌜ r ≡ replayed heardBy (now (picture .entry)) (now (s .entry)) .replay ⌝ }
     ensures { λ _. ⌜ now (picture .exit) ≡ replayed heardBy (now (picture .entry)) (now (s .entry)) .picture ⌝ }
 {
-    // the records refused, and those accepted: in memory, so that a record adds to one of two counts in one instruction and no register is taken
-    let mut counts: [u64; 2] = [0, 0];
+    let mut records: u64 = 0;
+    let mut refused: u64 = 0;
     let mut at: usize = 0;
     loop {
         match quick::read_record(s, at) {
@@ -52,14 +54,14 @@ pub fn hear_records(picture: &mut [u8], s: &[u8]) -> Replay
                 len,
                 next,
             } => {
-                let accepted = hear_one(picture, identifier, remote, &s[start..start + len]);
-                counts[accepted] = counts[accepted] + 1;
+                records += 1;
+                refused = hear_one(picture, identifier, remote, &s[start..start + len], refused);
                 at = next;
             }
             Entry::End => {
                 return Replay {
-                    heard: counts[1],
-                    refused: counts[0],
+                    heard: records - refused,
+                    refused,
                     at,
                     refusal: 0,
                     offset: at,
@@ -67,8 +69,8 @@ pub fn hear_records(picture: &mut [u8], s: &[u8]) -> Replay
             }
             Entry::Broken { refusal, offset } => {
                 return Replay {
-                    heard: counts[1],
-                    refused: counts[0],
+                    heard: records - refused,
+                    refused,
                     at,
                     refusal,
                     offset,
