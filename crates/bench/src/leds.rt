@@ -1,6 +1,6 @@
 // The eight LEDs, set by a command.
 use crate::bytes::put_bytes;
-use changes::leds_by;
+use crate::eights::led_states;
 use places::LEDS;
 use shape::put_at;
 ghost use mathlib.Core.Path.{_≡_};
@@ -15,7 +15,7 @@ const FIRST: usize = LEDS as usize;
 pub fn set_all(bench: &mut [u8], on: u8, slow: u8, fast: u8)
     ensures { λ _. ⌜ now (bench .exit) ≡ doneBy (allLeds on slow fast) (now (bench .entry)) ⌝ }
 {
-    let states = leds_by(on, slow, fast);
+    let states = led_states(on, slow, fast);
     put_bytes(bench, LEDS, &states);
 }
 

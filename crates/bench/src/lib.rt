@@ -1,6 +1,7 @@
 // A bench module to teach on: a VMB8IR in lent bytes, made new, what a command does to it, and its replies written as frames.
 mod bytes;
 mod deeds;
+mod eights;
 mod leds;
 mod making;
 mod sending;

@@ -29,19 +29,19 @@ unfolding laneWord
 lane-bits x h k l = eqb-true _ _ (below (laneTest k) 256 (below (λ k. allBelow (laneTest k) 256) 5 refl k (omega arith)) x h)
 
 -- ---- one bit
-bit-small : (x i : ℕ) → bit x i < 2
+pub bit-small : (x i : ℕ) → bit x i < 2
 bit-small x i = omega arith
 
-bit-and : (a b i : ℕ) → bit (bitAnd a b) i ≡ bitAnd (bit a i) (bit b i)
+pub bit-and : (a b i : ℕ) → bit (bitAnd a b) i ≡ bitAnd (bit a i) (bit b i)
 bit-and a b i = rw (and-shr a b i) (and-mod (a / 2 ^ i) (b / 2 ^ i) 1)
 
-bit-off : (x : ℕ) → x < 256 → (i : ℕ) → i < 8 → bit (255 - x) i ≡ 1 - bit x i
+pub bit-off : (x : ℕ) → x < 256 → (i : ℕ) → i < 8 → bit (255 - x) i ≡ 1 - bit x i
 bit-off x h i l =
     eqb-true _ _
     (below (λ i. eqb (bit (255 - x) i) (1 - bit x i)) 8
     (below (λ x. allBelow (λ i. eqb (bit (255 - x) i) (1 - bit x i)) 8) 256 refl x h) i l)
 
-bits : (P : ℕ → Type 0) → P 0 → P 1 → (b : ℕ) → b < 2 → P b
+pub bits : (P : ℕ → Type 0) → P 0 → P 1 → (b : ℕ) → b < 2 → P b
 bits P p q zero h = p
 bits P p q (suc zero) h = q
 bits P p q (suc (suc n)) h = absurd (omega arith)
@@ -69,7 +69,7 @@ glow-small Slow = omega arith
 glow-small Fast = omega arith
 glow-small VeryFast = omega arith
 
-led-small : (on slow fast i : ℕ) → ledBy on slow fast i ≤ 4
+pub led-small : (on slow fast i : ℕ) → ledBy on slow fast i ≤ 4
 led-small on slow fast i = glow-small (glowBy (bit on i) (bit slow i) (bit fast i))
 
 -- the bits of slow and fast of an LED that is not on, and of both

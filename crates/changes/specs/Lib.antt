@@ -1,3 +1,3 @@
--- What is told to a picture's bytes, for every list of bytes; the contracts cite these. Lanes is how eight LEDs are worked out at once.
+-- What is told to a picture's bytes, for every list of bytes; the contracts cite these. Lanes is how four LEDs are worked out at once.
 pub mod Lanes
 pub mod Telling

@@ -1,7 +1,6 @@
 // The states of the eight LEDs, from the bytes that speak of all of them: four at a time, each a 16-bit number of a word, as places hold them.
 ghost use mathlib.Core.Path.{_≡_};
 ghost use Prim.Native.Nat.{_+_, _-_, _*_, _<_, _≤_};
-ghost use Rattle.laws.specs.Tab.{tab};
 ghost use Rattle.places.specs.Runs.{bit, ledBy};
 ghost use Rattle.changes.specs.Lanes.{laneWord, wordBytes};
 
@@ -72,12 +71,4 @@ pub(crate) fn four_bytes(on: u8, slow: u8, fast: u8, from: u32) -> [u8; 8]
     ensures { λ r. ⌜ r ≡ wordBytes (laneWord (ledBy on slow fast) from) ⌝ }
 {
     word_bytes(four_leds(on, slow, fast, from))
-}
-
-pub fn leds_by(on: u8, slow: u8, fast: u8) -> [u8; 8]
-    ensures { λ r. ⌜ r ≡ tab 8 (ledBy on slow fast) ⌝ }
-{
-    let a = four_bytes(on, slow, fast, 0);
-    let b = four_bytes(on, slow, fast, 4);
-    [a[0], a[2], a[4], a[6], b[0], b[2], b[4], b[6]]
 }

@@ -2,7 +2,6 @@
 mod leds;
 mod telling;
 
-pub use leds::leds_by;
 pub use telling::ask_four;
 pub use telling::ask_one;
 pub use telling::pass;

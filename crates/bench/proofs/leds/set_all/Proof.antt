@@ -9,7 +9,7 @@ use Rattle.bench.proofs.leds.set_all.Tie as tie
 
 returns : tie.Need-returns
 returns c = let a = c .before .before .before .before .before .before .before .args in
-    c .before .before .put-bytes .ensures ∙ rw (c .before .before .before .before .before .leds-by .ensures) (told-stored (tab 8 (ledBy (a .on) (a .slow) (a .fast))) (a .bench .now) 2)
+    c .before .before .put-bytes .ensures ∙ rw (c .before .before .before .before .before .led-states .ensures) (told-stored (tab 8 (ledBy (a .on) (a .slow) (a .fast))) (a .bench .now) 2)
 
 pub set-all-spec : {M : Type 1} → statement M
 set-all-spec =
