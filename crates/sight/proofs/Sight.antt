@@ -7,8 +7,8 @@ use native.Mathlib.Omega.{arith}
 use mathlib.Core.Path.{_≡_, refl, sym, ap, subst, _∙_}
 use mathlib.Core.Bool.{Bool, true, false, _&&_}
 use mathlib.Core.List.{List, [], _∷_}
-use lib.ListN.{length, getD}
-use lib.Seq.{sets, ext-getD}
+use lib.ListN.{length, getD, set}
+use lib.Seq.{sets, ext-getD, getD-set-other}
 use lib.Dec.{eqb, leb}
 use borrow.Author.Tests.{eqb-true, leb-true}
 use Rattle.laws.specs.Tab.{tab}
@@ -85,6 +85,16 @@ module _ (s : List ℕ) {c : ℕ} (command : byte 1 s ≡ c) where
   unfolding tab
   of-seven h = by-bytes 7 s (h .sized) ∙ rw (command, h .high)
 
+-- the address lies behind the cells
+address-kept : (b : List ℕ) (x v w y z : ℕ) → x ≤ 252 → ownAddress (doneBy (telling (cellPlace vmb8ir x) (v ∷ w ∷ y ∷ z ∷ [])) b) ≡ ownAddress b
+unfolding store
+address-kept b x v w y z h =
+    let p = 256 + x in
+    getD-set-other (set (set (set b p v) (suc p) w) (suc (suc p)) y) (suc (suc (suc p))) 512 z 0 (λ e. omega arith)
+    ∙ getD-set-other (set (set b p v) (suc p) w) (suc (suc p)) 512 y 0 (λ e. omega arith)
+    ∙ getD-set-other (set b p v) (suc p) 512 w 0 (λ e. omega arith)
+    ∙ getD-set-other b p 512 v 0 (λ e. omega arith)
+
 -- two tests that hold together: the second is of the room
 pub both-held : (t : Bool) (n : ℕ) (buffer : List ℕ) → t && leb n (length buffer) ≡ true → (t ≡ true) × (n ≤ length buffer)
 both-held t n buffer h = let g = and-both t (leb n (length buffer)) h in (g .0, leb-true n (length buffer) (g .1))
@@ -144,10 +154,11 @@ module _ (b : List ℕ) (address identifier : ℕ) (ours : Ours b address identi
       taken (0xFC ∷ 0 ∷ x ∷ v ∷ []) b′ buffer (CellSet (record { 0 = x }) v) 0 (omega arith) (omega arith) refl (rw (near 255 (256 * 0 + x) (omega arith))) (ap (λ (n : ℕ). CellSet (record { 0 = n }) v) (above x)) (λ y. refl) (omega arith) e (sym (no-more buffer 0 (ownAddress b′)))
 
   block-stored : (x v w y z : ℕ) (b′ buffer′ : List ℕ) → x ≤ 252 → 12 ≤ length buffer → b′ ≡ doneBy (telling (cellPlace vmb8ir x) (v ∷ w ∷ y ∷ z ∷ [])) b
-      → buffer′ ≡ sets buffer 0 (allBytes (ownAddress b′) (block b′ x ∷ [])) → Took b identifier 0 (0xCA ∷ 0 ∷ x ∷ v ∷ w ∷ y ∷ z ∷ []) buffer 1 b′ buffer′
+      → buffer′ ≡ sets buffer 0 (allBytes address (block b′ x ∷ [])) → Took b identifier 0 (0xCA ∷ 0 ∷ x ∷ v ∷ w ∷ y ∷ z ∷ []) buffer 1 b′ buffer′
   unfolding replies done rowsOf lineOf
   block-stored x v w y z b′ buffer′ h fits e f =
-      taken (0xCA ∷ 0 ∷ x ∷ v ∷ w ∷ y ∷ z ∷ []) b′ buffer′ (BlockSet (record { 0 = x }) v w y z) 1 (omega arith) (omega arith) refl (rw (near 252 (256 * 0 + x) (omega arith))) (ap (λ (n : ℕ). BlockSet (record { 0 = n }) v w y z) (above x)) (λ y. refl) fits e f
+      let own : ownAddress b′ ≡ address = ap ownAddress e ∙ address-kept b x v w y z h ∙ sym (ours .own) in
+      taken (0xCA ∷ 0 ∷ x ∷ v ∷ w ∷ y ∷ z ∷ []) b′ buffer′ (BlockSet (record { 0 = x }) v w y z) 1 (omega arith) (omega arith) refl (rw (near 252 (256 * 0 + x) (omega arith))) (ap (λ (n : ℕ). BlockSet (record { 0 = n }) v w y z) (above x)) (λ y. refl) fits e (rw own f)
 
   all-lit : (on slow fast : ℕ) (b′ : List ℕ) → b′ ≡ doneBy (allLeds on slow fast) b → Took b identifier 0 (0xF4 ∷ on ∷ slow ∷ fast ∷ []) buffer 0 b′ buffer
   unfolding replies done rowsOf lineOf
@@ -207,7 +218,7 @@ module _ (b : List ℕ) (address identifier : ℕ) (ours : Ours b address identi
         to-shape (of-four s k (h .sized) ∙ rw (h .high)) (cell-stored (byte 3 s) (byte 4 s) b′ (h .low-byte) e)
 
     pub block-set : (b′ buffer′ : List ℕ) → byte 1 s ≡ 0xCA → located 7 252 s && leb 12 (length buffer) ≡ true
-        → b′ ≡ doneBy (telling (cellPlace vmb8ir (byte 3 s)) (byte 4 s ∷ byte 5 s ∷ byte 6 s ∷ byte 7 s ∷ [])) b → buffer′ ≡ sets buffer 0 (allBytes (ownAddress b′) (block b′ (byte 3 s) ∷ []))
+        → b′ ≡ doneBy (telling (cellPlace vmb8ir (byte 3 s)) (byte 4 s ∷ byte 5 s ∷ byte 6 s ∷ byte 7 s ∷ [])) b → buffer′ ≡ sets buffer 0 (allBytes address (block b′ (byte 3 s) ∷ []))
         → Took b identifier 0 s buffer 1 b′ buffer′
     block-set b′ buffer′ k t e f =
         let g = both-held (located 7 252 s) 12 buffer t in

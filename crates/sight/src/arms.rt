@@ -17,7 +17,6 @@ use kinds::one_bit;
 use laws::both;
 use laws::byte_at;
 use laws::wide16;
-use replies::ADDRESS_AT;
 ghost use mathlib.Core.Path.{_≡_};
 ghost use Prim.Native.Nat.{_+_, _≤_};
 ghost use Rattle.frame.specs.Bytes.{byte};
@@ -145,7 +144,7 @@ fn block_set(bench: &mut [u8], address: u8, identifier: u32, data: &[u8], replie
         byte_at(data, 5),
         byte_at(data, 6),
     );
-    tell_block(bench, byte_at(bench, ADDRESS_AT), l, replies);
+    tell_block(bench, address, l, replies);
     1
 }
 
