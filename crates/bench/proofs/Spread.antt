@@ -1,12 +1,11 @@
 -- Eight LEDs at once, in the eight bytes of a word.
---     spread-bits     the bits of a byte, from its product
+--     spread-bits     the bits of a byte, from its product; spread-small, which is a small word
 --     eight-leds      the states, from the bits of three bytes
 --     bytes-back      the bytes of a word that is made of bytes
 -- Assumes nothing.
 use Prim.Native.Nat.{ℕ, zero, suc, _+_, _-_, _*_, _/_, _%_, _^_, _<_, _≤_}
 use native.Mathlib.Omega.{arith}
 use mathlib.Core.Path.{_≡_, refl}
-use mathlib.Core.Bool.{Bool}
 use lib.Bits.{bitAnd, bitOr, bitXor, and-le-r, or-shr, or-mod, xor-shr, xor-mod}
 use lib.Dec.{eqb}
 use borrow.Author.Tests.{eqb-true}
@@ -17,12 +16,15 @@ use Rattle.bench.specs.Eights.{byteWord, byteList}
 use Rattle.changes.proofs.Lanes.{bit-small, bit-and, bit-off, bits, led-small}
 
 -- ---- the bits of a byte, a byte each: one test of all bytes
-abbrev spreadOf : ℕ → ℕ
+abbrev pub spreadOf : ℕ → ℕ
 spreadOf x = bitAnd ((bitAnd (x * 0x0101010101010101) 0x8040201008040201 + 0x7F7F7F7F7F7F7F7F) / 128) 0x0101010101010101
 
-pub spread-bits : (x : ℕ) → x < 256 → bitAnd ((bitAnd (x * 0x0101010101010101) 0x8040201008040201 + 0x7F7F7F7F7F7F7F7F) / 128) 0x0101010101010101 ≡ byteWord (tab 8 (bit x))
+pub spread-bits : (x : ℕ) → x < 256 → spreadOf x ≡ byteWord (tab 8 (bit x))
 unfolding tab byteWord
 spread-bits x h = eqb-true _ _ (below (λ x. eqb (spreadOf x) (byteWord (tab 8 (bit x)))) 256 refl x h)
+
+pub spread-small : (x : ℕ) → spreadOf x ≤ 0x0101010101010101
+spread-small x = and-le-r ((bitAnd (x * 0x0101010101010101) 0x8040201008040201 + 0x7F7F7F7F7F7F7F7F) / 128) 0x0101010101010101
 
 -- ---- one state, from the bits
 bit-or : (a b i : ℕ) → bit (bitOr a b) i ≡ bitOr (bit a i) (bit b i)

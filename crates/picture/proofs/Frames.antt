@@ -1,17 +1,18 @@
 -- A frame heard, by the number that the code found.
 --     type-refused, type-fit, type-heard     a type frame at a listed address, judged as at no type
 --     bad-refused                            a type that may not be handed in
+--     form-passed, form-refused              a frame that passes the first tests, and one that does not
 --     request-refused, request-heard         a type request
 --     newcomer-refused, newcomer-request, newcomer-fits, newcomer-heard     at an address with no module
 -- Assumes nothing.
 use Prim.Native.Nat.{ℕ, _≤_, _<_}
 use mathlib.Core.Path.{_≡_, refl, sym, _∙_}
-use mathlib.Core.Bool.{Bool, true, false, cond, _&&_}
+use mathlib.Core.Bool.{Bool, true, false, not, cond, _&&_}
 use mathlib.Core.List.{List}
 use native.Mathlib.Omega.{arith}
-use lib.Dec.{ltb}
+use lib.Dec.{eqb, ltb}
 use lib.ListN.{length}
-use borrow.Author.Tests.{lt-ltb, le-ltb}
+use borrow.Author.Tests.{eqb-true, eqb-false, not-true, not-false, lt-ltb, le-ltb}
 use Rattle.laws.specs.Refusals.{badType}
 use Rattle.laws.specs.Tests.{among, unless}
 use Rattle.laws.proofs.Testing.{held}
@@ -36,6 +37,14 @@ use Rattle.picture.proofs.Heard.{refused, requested, told, type-fits, n
 abbrev pub Heard : ℕ → List ℕ → Result → Type 0
 Heard n x r = (n ≡ numberOf r) × (x ≡ r .buffer)
 
+-- the first tests, by the code's one answer
+module _ (identifier remote : ℕ) (s : List ℕ) {t : Bool} (e : t ≡ eqb (frameRefusal noType identifier remote (length s)) 0) where
+  pub form-passed : not t ≡ false → frameRefusal noType identifier remote (length s) ≡ 0
+  form-passed h = eqb-true (frameRefusal noType identifier remote (length s)) 0 (sym e ∙ not-false t h)
+
+  form-failed : not t ≡ true → frameRefusal noType identifier remote (length s) ≡ 0 → ⊥
+  form-failed h = eqb-false (frameRefusal noType identifier remote (length s)) 0 (sym e ∙ not-true t h)
+
 module _ (b : List ℕ) (slot identifier remote : ℕ) (s : List ℕ) (kind : ℕ) (k : kind ≡ kindIn b slot) where
   abbrev heardAt : Result
   heardAt = hearingAt b slot identifier remote s
@@ -47,9 +56,13 @@ module _ (b : List ℕ) (slot identifier remote : ℕ) (s : List ℕ) (kind : �
   bad-refused h = as-refused badType (rw (handed-bad kind identifier remote s h)) (λ z. omega arith)
 
   -- ---- the frame's own tests, a type request, and a command, whichever type is handed in
-  pub form-refused : (n : ℕ) → n ≡ frameRefusal noType identifier remote (length s) → (n ≡ 0 → ⊥) → Heard (unless (among kind handedTypes) badType n) b heardAt
-  form-refused n e z = go (among kind handedTypes) refl
+  pub form-refused : {t : Bool} → t ≡ eqb (frameRefusal noType identifier remote (length s)) 0 → not t ≡ true
+      → (n : ℕ) → n ≡ frameRefusal noType identifier remote (length s) → Heard (unless (among kind handedTypes) badType n) b heardAt
+  form-refused f h n e = go (among kind handedTypes) refl
     where
+      z : n ≡ 0 → ⊥
+      z q = form-failed identifier remote s f h (sym e ∙ q)
+
       go : (t : Bool) → among kind handedTypes ≡ t → Heard (unless t badType n) b heardAt
       go true h = as-refused n (frame-number kind identifier remote s (e ∙ handed-form kind identifier remote (length s) h) z) z
       go false h = bad-refused h

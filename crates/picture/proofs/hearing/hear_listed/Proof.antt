@@ -1,42 +1,33 @@
 -- `picture::hearing::hear_listed` meets its contract. Assumes nothing.
-use mathlib.Core.Path.{sym, _∙_}
+use mathlib.Core.Path.{_∙_}
 use borrow.Author.Needs.{needs}
-use lib.ListN.{length}
-use Rattle.kinds.specs.Types.{noType}
-use Rattle.judging.specs.Reading.{frameRefusal}
-use borrow.Author.Tests.{eqb-true, eqb-false, not-true, not-false}
-use Rattle.picture.proofs.Frames.{form-refused}
+use Rattle.picture.proofs.Frames.{form-passed, form-refused}
 use Rattle.picture.proofs.hearing.hear_listed.Statement.{statement}
 use Rattle.picture.proofs.hearing.hear_listed.Tie as tie
 
 returns : tie.Need-returns
 returns c =
     let a = c .before .before .before .before .before .before .before .before .args in
-    let f = c .before .before .before .is-frame in
     let r =
-    form-refused (a .picture .now) (a .slot) (a .identifier) (a .remote) (a .«data» .now) _ (c .before .before .before .before .kind-in .ensures) _ (c .before .form-refusal .ensures)
-    (λ z. eqb-false _ 0 (sym (f .ensures) ∙ not-true (f .result) (c .before .before .if1 .taken)) (sym (c .before .form-refusal .ensures) ∙ z)) in
+    form-refused (a .picture .now) (a .slot) (a .identifier) (a .remote) (a .«data» .now) _ (c .before .before .before .before .kind-in .ensures) (c .before .before .before .is-frame .ensures) (c .before .before .if1 .taken) _ (c .before .form-refusal .ensures) in
     (c .by-type .ensures ∙ r .0, r .1)
 
 hear-request-requires : tie.Need-hear-request-requires
 hear-request-requires c κs =
     let a = c .before .before .before .before .before .before .before .before .args in
-    let f = c .before .before .before .is-frame in
-    let passed = eqb-true (frameRefusal noType (a .identifier) (a .remote) (length (a .«data» .now))) 0 (sym (f .ensures) ∙ not-false (f .result) (c .before .before .if1 .left)) in
+    let passed = form-passed (a .identifier) (a .remote) (a .«data» .now) (c .before .before .before .is-frame .ensures) (c .before .before .if1 .left) in
     search needs
 
 hear-type-frame-requires : tie.Need-hear-type-frame-requires
 hear-type-frame-requires c κs =
     let a = c .before .before .before .before .before .before .before .before .before .before .args in
-    let f = c .before .before .before .before .before .is-frame in
-    let passed = eqb-true (frameRefusal noType (a .identifier) (a .remote) (length (a .«data» .now))) 0 (sym (f .ensures) ∙ not-false (f .result) (c .before .before .before .before .if1 .left)) in
+    let passed = form-passed (a .identifier) (a .remote) (a .«data» .now) (c .before .before .before .before .before .is-frame .ensures) (c .before .before .before .before .if1 .left) in
     search needs
 
 hear-other-requires : tie.Need-hear-other-requires
 hear-other-requires c κs =
     let a = c .before .before .before .before .before .before .before .before .before .before .args in
-    let f = c .before .before .before .before .before .is-frame in
-    let passed = eqb-true (frameRefusal noType (a .identifier) (a .remote) (length (a .«data» .now))) 0 (sym (f .ensures) ∙ not-false (f .result) (c .before .before .before .before .if1 .left)) in
+    let passed = form-passed (a .identifier) (a .remote) (a .«data» .now) (c .before .before .before .before .before .is-frame .ensures) (c .before .before .before .before .if1 .left) in
     search needs
 
 pub hear-listed-spec : {M : Type 1} → statement M
