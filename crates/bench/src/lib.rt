@@ -1,4 +1,6 @@
 // A bench module to teach on: a VMB8IR in lent bytes, made new, what a command does to it, and its replies written as frames.
+#![tactic(auto)]
+
 mod bytes;
 mod deeds;
 mod eights;

@@ -1,4 +1,6 @@
 // What is told to a picture: runs of places, each of which looks first whether it lies in a record, so that it is total on any bytes.
+#![tactic(auto)]
+
 mod leds;
 mod telling;
 

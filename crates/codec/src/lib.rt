@@ -1,4 +1,6 @@
 // Messages written as Velbus frames, and what reading and writing make of each other.
+#![tactic(auto)]
+
 mod encoding;
 mod faults;
 mod writer;

@@ -1,4 +1,6 @@
 // A command that a module tells or is told: judged, and told to the picture, at one look.
+#![tactic(auto)]
+
 mod blinds;
 mod cells;
 mod commands;

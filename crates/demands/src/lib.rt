@@ -1,5 +1,7 @@
 // The buyer's three demands, each as one statement over the definitions of the crates below: the crate is its statements (specs/) and
 // their proofs (proofs/).
+#![tactic(auto)]
+
 ghost use Rattle.std.specs.Prelude.{◌≡◌};
 ghost use Rattle.laws.specs.Refusals.{sid0_set};
 

@@ -1,4 +1,6 @@
 // The starred edges of the rules, one table of what the definitions give and what is right: the crate is that table (specs/) and its proof (proofs/).
+#![tactic(auto)]
+
 ghost use Rattle.std.specs.Prelude.{◌≡◌};
 ghost use Rattle.history.specs.Cases.{example};
 

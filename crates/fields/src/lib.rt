@@ -1,4 +1,6 @@
 // Which fields of a message are allowed, by the module's type.
+#![tactic(auto)]
+
 mod fields;
 
 pub use fields::{

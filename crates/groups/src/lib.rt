@@ -1,4 +1,6 @@
 // Seven-bit numbers group by group: their reader and their writer.
+#![tactic(auto)]
+
 mod scan;
 mod writes;
 

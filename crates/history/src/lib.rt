@@ -1,4 +1,6 @@
 // What the standing frames tell, and that the picture's bytes show it: the crate is its statements (specs/) and their proofs (proofs/).
+#![tactic(auto)]
+
 ghost use Rattle.std.specs.Prelude.{◌≡◌};
 ghost use Rattle.history.specs.Standing.{deepest};
 

@@ -1,4 +1,6 @@
 // A frame judged on its bytes, by the module types' rows and the rules of the fields.
+#![tactic(auto)]
+
 mod frames;
 mod rows;
 

@@ -1,4 +1,6 @@
 // The module types: their numbers, and how much each has.
+#![tactic(auto)]
+
 mod bits;
 mod types;
 

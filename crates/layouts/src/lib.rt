@@ -1,4 +1,6 @@
 // A message as it lies in a C caller's bytes: laid out, and taken in again.
+#![tactic(auto)]
+
 mod layout;
 mod parts;
 

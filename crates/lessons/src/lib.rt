@@ -1,4 +1,6 @@
 // What a picture that listens to a bench shows: the crate is its statements (specs/) and their proofs (proofs/).
+#![tactic(auto)]
+
 ghost use Rattle.std.specs.Prelude.{◌≡◌};
 ghost use Rattle.replies.specs.Replies.{blocks};
 

@@ -1,4 +1,6 @@
 // Reads a recording from standard input, of any length, and writes the listing of what was heard to standard output.
+#![tactic(auto)]
+
 use libc::{STDERR_FILENO, STDIN_FILENO, STDOUT_FILENO};
 use recorder::Put;
 use replay::{Part, Stream};

@@ -1,4 +1,6 @@
 // The places of a module, and what each frame says of them; every function here is total.
+#![tactic(auto)]
+
 mod leds;
 mod places;
 

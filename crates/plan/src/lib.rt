@@ -1,5 +1,7 @@
 // The plan of reads: the fewest block reads that together read every unknown cell of a module, and the test of a proposed plan. Each call is answered
 // from the picture's own bytes, and changes none of them.
+#![tactic(auto)]
+
 mod cells;
 mod judges;
 mod plans;

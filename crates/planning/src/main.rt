@@ -1,5 +1,7 @@
 // Reads a recording from standard input, of any length, and writes for each listed module what is to be read of it, a line each; with the argument
 // --frames, the frames of those reads themselves, as a recording that is ready to be sent.
+#![tactic(auto)]
+
 use codec::{Frame, Writing};
 use frame::{Address, Command, Location, Message};
 use libc::{STDERR_FILENO, STDIN_FILENO, STDOUT_FILENO};

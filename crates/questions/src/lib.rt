@@ -1,4 +1,6 @@
 // The questions on a picture: each is answered from the bytes that the caller lends, and changes none of them.
+#![tactic(auto)]
+
 mod asking;
 mod names;
 mod rows;

@@ -1,4 +1,6 @@
 // Velbus frames read as messages.
+#![tactic(auto)]
+
 mod reader;
 
 pub use reader::read;

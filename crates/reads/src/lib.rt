@@ -1,4 +1,6 @@
 // Block reads: where one may start, which cells it reads, and when a list of them is a right plan for a memory row.
+#![tactic(auto)]
+
 mod blocks;
 mod proposals;
 

@@ -1,4 +1,6 @@
 // Recordings: the writer of records.
+#![tactic(auto)]
+
 mod writes;
 
 pub use writes::{Put, put_record};

@@ -1,4 +1,6 @@
 // Recordings: the reader of records, wherever they end.
+#![tactic(auto)]
+
 mod limits;
 mod records;
 

@@ -1,5 +1,7 @@
 // What the byte of a refusal 9 means: the statement (specs/) that it is the first data byte, from the left, that no allowed choice of the later ones
 // can repair, and its proof (proofs/); and a refusal's code taken apart.
+#![tactic(auto)]
+
 ghost use Rattle.std.specs.Prelude.{◌≡◌};
 ghost use Rattle.laws.specs.Refusals.{number_in, byte_in};
 

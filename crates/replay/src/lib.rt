@@ -1,4 +1,6 @@
 // A recording heard record by record: the records of a slice, and those of an input that comes in parts, through a window.
+#![tactic(auto)]
+
 mod records;
 mod window;
 

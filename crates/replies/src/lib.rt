@@ -1,4 +1,6 @@
 // What a bench tells: each reply as a command, made of the bench's bytes.
+#![tactic(auto)]
+
 mod cells;
 mod leds;
 mod told;

@@ -1,4 +1,6 @@
 // The result word of a call from C.
+#![tactic(auto)]
+
 mod words;
 
 pub use words::{answer_word, outcome_word, refused, room_word};

@@ -1,4 +1,6 @@
 // Where a picture's parts lie in its bytes, what steers, and what a call answers; every function here is total on any bytes.
+#![tactic(auto)]
+
 mod answers;
 mod bytes;
 mod head;

@@ -1,4 +1,6 @@
 // The head of a picture, whose bytes steer the rest: made fresh, and one step more kept. Every function here is total on any bytes.
+#![tactic(auto)]
+
 mod clearing;
 mod steps;
 

@@ -1,5 +1,7 @@
 // A bench module to teach on, for the classroom: reads a recording of commands from standard input, and writes to standard output a recording of the
 // commands that the bench took, each with the bench's replies after it. A command that is refused is told on standard error, and is not written.
+#![tactic(auto)]
+
 use libc::{STDERR_FILENO, STDIN_FILENO, STDOUT_FILENO};
 use recorder::Put;
 use recording::Entry;

@@ -1,4 +1,6 @@
 // What is shown of a picture as text: the listing of what was heard, and the line of a module's plan of reads.
+#![tactic(auto)]
+
 mod lines;
 mod listing;
 mod plans;

@@ -1,4 +1,6 @@
 // Runs the statements of standard input, a line each, through the library, and compares each answer, in words, with what the line says.
+#![tactic(auto)]
+
 mod answers;
 mod frames;
 mod pictures;

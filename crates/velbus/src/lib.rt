@@ -1,4 +1,6 @@
 // The C interface: numbers and byte buffers in, one result word out.
+#![tactic(auto)]
+
 mod benches;
 mod frames;
 mod pictures;

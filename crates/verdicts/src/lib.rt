@@ -1,4 +1,6 @@
 // What a bench makes of a frame.
+#![tactic(auto)]
+
 mod verdicts;
 
 pub use verdicts::{Verdict, judge};
