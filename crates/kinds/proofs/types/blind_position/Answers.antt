@@ -1,0 +1,21 @@
+-- `kinds::types::blind_position` meets its contract.
+-- Assumes nothing.
+use Rattle.kinds.specs.Types.{blind_channels, position_in}
+use Rattle.kinds.proofs.Positions.{position_none}
+use mathlib.Core.Path.{sym}
+use Rattle.kinds.proofs.types.blind_position.Goals as goal
+
+pub returns-in-3 : goal.returns-in-3
+unfolding position_in
+returns-in-3 c = rw c.in-3.is
+
+pub returns-in-16 : goal.returns-in-16
+unfolding position_in
+returns-in-16 c = rw c.in-16.is
+
+pub returns-in-32 : goal.returns-in-32
+unfolding position_in
+returns-in-32 c = rw c.in-32.is
+
+pub returns-in_default : goal.returns-in_default
+returns-in_default c = sym (position_none blind_channels c.args.channel c.in_default.in_default-own.rest)
