@@ -36,7 +36,7 @@ pub fill-requires : goal.fill-requires
 fill-requires t c = let a = c.args in (omega arith, simp length-set (omega (arith, ap length (bytes_more a.left a.v (λ e. omega arith) (omega arith)))))
 
 pub shape_of-out : goal.shape_of-out
-shape_of-out t c = c.fill.auto.0 ∙ simp length-set
+shape_of-out t c = c.fill.auto.out ∙ simp length-set
 
 pub returns : goal.returns
 returns t c =

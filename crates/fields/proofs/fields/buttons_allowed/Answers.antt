@@ -13,8 +13,7 @@ use Rattle.laws.proofs.Testing.{same, same_is}
 use mathlib.Core.List.{[]}
 use native.Mathlib.Omega.{arith}
 use borrow.Author.Rules.{rules}
-use Rattle.fields.proofs.fields.buttons_allowed.Statement.{statement}
-use Rattle.fields.proofs.fields.buttons_allowed.Tie as tie
+use Rattle.fields.proofs.fields.buttons_allowed.Goals as goal
 
 of-blind : (x : ℕ) → x < 256 → (ltb x 64 && eqb (x / 4 % 4) 0) ≡ clear_bits blind_channels bits x
 of-blind x h = same_is _ _ (below (λ x. same (ltb x 64 && eqb (x / 4 % 4) 0) (clear_bits blind_channels bits x)) 256 refl x h)
@@ -22,21 +21,18 @@ of-blind x h = same_is _ _ (below (λ x. same (ltb x 64 && eqb (x / 4 % 4) 0) (c
 of_none : (x : ℕ) → x < 256 → eqb x 0 ≡ clear_bits [] bits x
 of_none x h = same_is _ _ (below (λ x. same (eqb x 0) (clear_bits [] bits x)) 256 refl x h)
 
-returns : tie.Need-returns
+pub returns-in-3 : goal.returns-in-3
 unfolding buttons_allowed line_of
-returns c = rw (c.before.match.keys1, c.both.ensures) (of-blind c.before.before.args.x (omega arith))
+returns-in-3 c = rw (c.in-3.is, c.both.ensures) (of-blind c.args.x (omega arith))
 
-returns-2 : tie.Need-returns-2
+pub returns-in-10 : goal.returns-in-10
 unfolding buttons_allowed line_of
-returns-2 c = rw c.match.keys2
+returns-in-10 c = rw c.in-10.is
 
-returns-3 : tie.Need-returns-3
+pub returns-in-9 : goal.returns-in-9
 unfolding buttons_allowed line_of
-returns-3 c = rw c.match.keys3
+returns-in-9 c = rw c.in-9.is
 
-returns-4 : tie.Need-returns-4
+pub returns-in_default : goal.returns-in_default
 unfolding buttons_allowed
-returns-4 c = rw (other_line c.before.args.kind c.match.rest, channels_of) (of_none c.before.args.x (omega arith))
-
-pub buttons-allowed-spec : {M : Type 1} → statement M
-buttons-allowed-spec = tie.close (tie.spec (λ c κs. search rules) returns returns-2 returns-3 returns-4)
+returns-in_default c = rw (other_line c.args.kind c.in_default.in_default-own.rest, channels_of) (of_none c.args.x (omega arith))
