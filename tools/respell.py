@@ -10,7 +10,12 @@ import glob
 import re
 import sys
 
-TOKEN = re.compile(r"""b?"(?:[^"\\\n]|\\.)*"|b'(?:[^'\\]|\\.)[^']*'|(?<![\w'\-])[A-Za-z_][\w'\-]*""", re.ASCII)
+# In .rt a byte literal is one character; in .antt b' is a name with a prime.
+WORD = r"""(?<![\w'\-])[A-Za-z_][\w'\-]*"""
+STRING = r'''b?"(?:[^"\\\n]|\\.)*"'''
+BYTE = r"""b'(?:[^'\\\n]|\\.)'"""
+IN_ANTT = re.compile(f"{STRING}|{WORD}", re.ASCII)
+IN_RT = re.compile(f"{STRING}|{BYTE}|{WORD}", re.ASCII)
 DECLARED = re.compile(r"((?:(?:abbrev|unfoldable|pub|data|record|opaque) )*)([A-Za-z_][\w'\-]*)(?=[ :])")
 FIELD = re.compile(r"^ +pub ([a-z][\w'\-]*)")
 # Two names that would fall together.
@@ -27,6 +32,10 @@ BY_HAND = {
 }
 LIBRARY = "length append take drop map filter sum get_or set cond among suc min max tab".split()
 CASE = re.compile(r"^  ([a-z][\w'\-]*) :")
+
+
+def words_of(path):
+    return IN_RT if path.endswith(".rt") else IN_ANTT
 
 
 def sources(*kinds):
@@ -81,7 +90,7 @@ def plan():
     code = sources("src/**/*.rt")
     tokens = set()
     for path in specs + lemmas + proofs + code + sources("must-fail/*.edit"):
-        tokens |= {m.group() for m in TOKEN.finditer(read(path)) if not m.group().startswith(('"', 'b"', "b'"))}
+        tokens |= {m.group() for m in words_of(path).finditer(read(path)) if not m.group().startswith(('"', 'b"'))}
     functions = set()
     for path in code:
         functions |= set(re.findall(r"\bfn ([a-z]\w*)", read(path)))
@@ -113,8 +122,10 @@ def plan():
     for t in sorted(in_proofs - set(new)):
         if camel_to_snake(t) != t:
             new[t] = camel_to_snake(t)
+    # a lemma that has the name a definition gets
+    fall_together = {t: t + "_lem" for t in own_lemmas if t not in new and t in from_camels}
     members_of_types = {t for t in new if "-" in t and t in own_specs | members(lemmas)}
-    return new, members_of_types, own_specs | own_lemmas
+    return new, members_of_types, own_specs | own_lemmas, fall_together
 
 
 # What port.py turns in specs/ and does not in an edit's lines.
@@ -126,7 +137,23 @@ IN_EDITS = [
 ]
 
 
-def respell(text, new, fields):
+def part_lemmas(path, text, fall_together):
+    """In the files that declare such a lemma or bring it from proofs/, it gets a name of its own."""
+    if not path.endswith(".antt") or "/proofs/" not in path:
+        return text
+    brought = set()
+    for m in re.finditer(r"^use Rattle\.\w+\.proofs\.[^{\n]*\{([^}]*)\}", text, re.M):
+        brought |= {w.strip() for w in m.group(1).split(",")}
+    here = {t for t in fall_together if t in brought or t in declared([path]) | members([path])}
+
+    def one(m):
+        t = m.group()
+        return fall_together[t] if t in here and text[m.start() - 1:m.start()] != "." else t
+
+    return IN_ANTT.sub(one, text) if here else text
+
+
+def respell(path, text, new, fields):
     def one(m):
         t = m.group()
         if t not in new:
@@ -137,14 +164,16 @@ def respell(text, new, fields):
                 return t
         return new[t]
 
-    return TOKEN.sub(one, text)
+    return words_of(path).sub(one, text)
 
 
 def main():
-    new, fields, known = plan()
+    new, fields, known, fall_together = plan()
     if "--list" in sys.argv:
         for t in sorted(new):
             print(t, new[t])
+        for t in sorted(fall_together):
+            print(t, fall_together[t], "(in the files that declare or bring it)")
         return
     for path in sources("specs/**/*.antt", "proofs/**/*.antt", "src/**/*.rt", "must-fail/*.edit"):
         text = read(path)
@@ -152,14 +181,14 @@ def main():
         if path.endswith(".edit"):
             for old, now in IN_EDITS:
                 changed = re.sub(old, now, changed)
-        changed = respell(changed, new, fields)
+        changed = respell(path, part_lemmas(path, changed, fall_together), new, fields)
         if changed != text:
             with open(path, "w", encoding="utf-8") as f:
                 f.write(changed)
     in_words = {t: n for t, n in new.items() if t in known}
     for path in ["README.md", "CONTRIBUTING.md"] + sorted(glob.glob("docs/*.md")):
         text = read(path)
-        changed = respell(text, in_words, in_words)
+        changed = respell(path, text, in_words, in_words)
         if changed != text:
             with open(path, "w", encoding="utf-8") as f:
                 f.write(changed)

@@ -56,8 +56,8 @@ some_number true e = omega arith
 some_number false e = omega arith
 
 module _ (b : List ℕ) (slot kind priority : ℕ) (s : List ℕ) where
-  pub refusing : {n : ℕ} {b' : List ℕ} → n ≡ commandNumber b slot kind priority s → (n ≡ 0 → ⊥) → b' ≡ b → Heard b slot kind priority s n b'
-  unfolding commandBytes
+  pub refusing : {n : ℕ} {b' : List ℕ} → n ≡ command_number b slot kind priority s → (n ≡ 0 → ⊥) → b' ≡ b → Heard b slot kind priority s n b'
+  unfolding command_bytes
   refusing {n} e h q = record { number = e; bytes_after = rw (← e, ne_eqb n 0 h) q }
 
   hearing : {n : ℕ} {b' : List ℕ} → n ≡ command_number b slot kind priority s → n ≡ 0 → b' ≡ naming b slot (named_by kind s) → Heard b slot kind priority s n b'
@@ -75,15 +75,15 @@ module _ {has : ℕ → Bool} {k n p : ℕ} (arm : Arm has k n p) (b : List ℕ)
   run_here_lem = rw first
 
   pub not_there : has kind ≡ false → {b' : List ℕ} → b' ≡ b → Heard b slot kind priority s not_listed b'
-  unfolding commandNumber
-  not_there h q = refusing b slot kind priority s (rw (le-ltb (length b) size ready.whole, lt-ltb slot room ready.within, first, arm.no-type, row-none has k n p arm.rows kind ready.module-type h)) (λ z. omega arith) q
+  unfolding command_number
+  not_there h q = refusing b slot kind priority s (rw (le-ltb (length b) size ready.whole, lt-ltb slot room ready.within, first, arm.no_type, row-none has k n p arm.rows kind ready.module_type h)) (λ z. omega arith) q
 
   module _ (here : has kind ≡ true) where
-    number : unless (eqb (length s) n) wrongLength (unless (eqb priority p) wrongPriority field) ≡ commandNumber b slot kind priority s
-    unfolding commandNumber
+    number : unless (eqb (length s) n) wrong_length (unless (eqb priority p) wrong_priority field) ≡ command_number b slot kind priority s
+    unfolding command_number
     number =
-        let row = row_of has k n p arm.rows kind ready.module-type here in
-        rw (le-ltb (length b) size ready.whole, lt-ltb slot room ready.within, first, arm.no-type, row.0, row.1, arm.some_bytes)
+        let row = row_of has k n p arm.rows kind ready.module_type here in
+        rw (le-ltb (length b) size ready.whole, lt-ltb slot room ready.within, first, arm.no_type, row.0, row.1, arm.some_bytes)
 
     pub misfitted : {t : Bool} {r : ℕ} {b' : List ℕ} → t ≡ eqb (length s) n && eqb priority p → not t ≡ true → r ≡ unless (eqb (length s) n) wrong_length wrong_priority → b' ≡ b → Heard b slot kind priority s r b'
     misfitted {t} f e q w = refusing b slot kind priority s (q ∙ one_fails (eqb (length s) n) (eqb priority p) field (sym f ∙ not-true t e) ∙ number) (λ z. some_number (eqb (length s) n) (sym q ∙ z)) w
@@ -93,20 +93,20 @@ module _ {has : ℕ → Bool} {k n p : ℕ} (arm : Arm has k n p) (b : List ℕ)
       field-number = let g = and_both (eqb (length s) n) (eqb priority p) (sym f ∙ not-false t e) in rw (g.0, g.1) at number
 
       pub at_fault : {r : ℕ} {b' : List ℕ} → r ≡ field → (r ≡ 0 → ⊥) → b' ≡ b → Heard b slot kind priority s r b'
-      at-fault e h q = refusing b slot kind priority s (e ∙ field-number) h q
+      at_fault e h q = refusing b slot kind priority s (e ∙ field-number) h q
 
       pub told :
-          (r : Run) → r ≡ runHere → {v : ℕ} → v ≡ field → v ≡ 0 → is_empty r.says ≡ false → r.start + length r.says ≤ places → {b' : List ℕ} → b' ≡ toldIn b slot r
+          (r : Run) → r ≡ run_here → {v : ℕ} → v ≡ field → v ≡ 0 → is_empty r.says ≡ false → r.start + length r.says ≤ places → {b' : List ℕ} → b' ≡ told_in b slot r
           → Heard b slot kind priority s 0 b'
       unfolding naming
       told r is v z some fits q = hearing b slot kind priority s (sym z ∙ v ∙ field-number) refl (rw (run_here_lem, ← is, lt-ltb slot room ready.within, some, ← told_in b slot r ready.whole ready.within fits) q)
 
       pub passed : no_run ≡ run_here → {v : ℕ} → v ≡ field → v ≡ 0 → {b' : List ℕ} → b' ≡ passed_in b → Heard b slot kind priority s 0 b'
-      unfolding naming passedIn
-      passed is v z q = hearing b slot kind priority s (sym z ∙ v ∙ field-number) refl (rw (run-here, ← is, lt-ltb slot room ready.within) (rw (le-ltb (length b) size ready.whole) at q))
+      unfolding naming passed_in
+      passed is v z q = hearing b slot kind priority s (sym z ∙ v ∙ field-number) refl (rw (run_here_lem, ← is, lt-ltb slot room ready.within) (rw (le-ltb (length b) size ready.whole) at q))
 
       pub by_field :
-          (r : Run) → r ≡ runHere → is_empty r.says ≡ false → r.start + length r.says ≤ places → {v : ℕ} {b' : List ℕ} → v ≡ field → b' ≡ cond (eqb field 0) (toldIn b slot r) b
+          (r : Run) → r ≡ run_here → is_empty r.says ≡ false → r.start + length r.says ≤ places → {v : ℕ} {b' : List ℕ} → v ≡ field → b' ≡ cond (eqb field 0) (told_in b slot r) b
           → Heard b slot kind priority s v b'
       by_field r is some fits {v} {b'} e q = go (eqb field 0) (eqb-true field 0) (eqb-false field 0) q
         where

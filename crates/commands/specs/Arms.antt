@@ -18,7 +18,7 @@ pub record Ready (b : List ℕ) (s kind : ℕ) : Type 0 where
 
 -- the number n and the bytes b' are the command's
 pub record Heard (b : List ℕ) (s kind priority : ℕ) (bytes : List ℕ) (n : ℕ) (b' : List ℕ) : Type 0 where
-  pub number : n ≡ commandNumber b s kind priority bytes
+  pub number : n ≡ command_number b s kind priority bytes
   pub bytes_after : b' ≡ command_bytes b s kind priority bytes
 
 -- the commands that stop or move a blind, and those all of whose bytes are free, each with its length

@@ -112,8 +112,8 @@ pub record Along (a : ℕ) (first : Run) (b : List ℕ) (fs : List Frame) (rs : 
 
 module _ (a : ℕ) (small : a < 256) (first : Run) where
   hear-one : (b b' : List ℕ) (f : Frame) (r : Run) (fs : List Frame) (rs : List Run) → Along a first b fs rs → address f ≡ a → meaning (some vmb8ir) f ≡ names r
-      → ((pic : ℕ → Known) → Agree pic b → Agree (hears r pic) b') → Sound b' → ownAddress b' ≡ a → Along a first b' (f ∷ fs) (r ∷ rs)
-  unfolding heardBy
+      → ((pic : ℕ → Known) → Agree pic b → Agree (hears r pic) b') → Sound b' → own_address b' ≡ a → Along a first b' (f ∷ fs) (r ∷ rs)
+  unfolding heard_by
   hear-one b b' f r fs rs l q m k s o =
       record { sound = s; own = o; hear = (record { at = q; means = m }, l.hear); agree = λ p v e. k (heard_by first rs) l.agree p v e }
 
@@ -141,10 +141,10 @@ module _ (a : ℕ) (small : a < 256) (first : Run) where
     unfolding heard_of on_top
     elsewhere e = record { runs = rs; along = rw e l }
 
-    heard_is : (ms : List Command) (b' : List ℕ) → ownAddress b' ≡ a → 12 * length ms ≤ length buffer → eqb (address f) a ≡ true
-        → heard_of a f (taken_with b' ms buffer) ≡ f ∷ sentAll a ms
-    unfolding heardOf
-    heard-is ms b' q h e = rw (e, q, sent_there a ms buffer h)
+    heard_is : (ms : List Command) (b' : List ℕ) → own_address b' ≡ a → 12 * length ms ≤ length buffer → eqb (address f) a ≡ true
+        → heard_of a f (taken_with b' ms buffer) ≡ f ∷ sent_all a ms
+    unfolding heard_of
+    heard_is ms b' q h e = rw (e, q, sent_there a ms buffer h)
 
     pub taken_along : (m : Message) → Took a f.identifier f.remote f.bytes m → 12 * length (replies (done m b) m) ≤ length buffer
         → Along a first (done m b) (on_top (heard_of a f (taken_with (done m b) (replies (done m b) m) buffer)) fs) (runs_on_top (runs_of (replies (done m b) m)) (run_by m ∷ rs))

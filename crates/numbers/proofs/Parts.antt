@@ -23,23 +23,23 @@ use Rattle.groups.proofs.Reading.{different, groups_at, Within, number-within}
 -- ---- a first part
 -- a choice that is not `none` stays where what is not chosen changes, and where what is not `none` stays
 cond_stays : {A : Type 0} (none : A) (t : Bool) (a b b' : A) → (cond t a b ≡ none → ⊥) → ((b ≡ none → ⊥) → b' ≡ b) → cond t a b' ≡ cond t a b
-cond-stays none true a b b' f g = refl
+cond_stays none true a b b' f g = refl
 cond_stays none false a b b' f g = g f
 
-number-settles : (left most at : ℕ) (bs t : List ℕ) → (readNumber left most at bs ≡ Ends → ⊥) → readNumber left most at (bs ++ t) ≡ readNumber left most at bs
-unfolding readNumber
-number-settles left most at [] t f = absurd (f refl)
-number-settles zero most at (b ∷ bs) t f = refl
-number-settles (suc left) most at (b ∷ bs) t f =
+number_settles : (left most at : ℕ) (bs t : List ℕ) → (read_number left most at bs ≡ Ends → ⊥) → read_number left most at (bs ++ t) ≡ read_number left most at bs
+unfolding read_number
+number_settles left most at [] t f = absurd (f refl)
+number_settles zero most at (b ∷ bs) t f = refl
+number_settles (suc left) most at (b ∷ bs) t f =
     let m : ℕ = (most - (b - 128)) / 128 in
-    cond-stays Ends (ltb most b) (Bad at) _ _ f
-    (λ f₁. cond-stays Ends (ltb b 128) (Value b 1) _ _ f₁
-    (λ f₂. cond-stays Ends (eqb left 0) (Bad at) _ _ f₂
-    (λ f₃. ap (joined at (b - 128)) (number-settles left m (at + 1) bs t (λ e. f₃ (ap (joined at (b - 128)) e))))))
+    cond_stays Ends (ltb most b) (Bad at) _ _ f
+    (λ f₁. cond_stays Ends (ltb b 128) (Value b 1) _ _ f₁
+    (λ f₂. cond_stays Ends (eqb left 0) (Bad at) _ _ f₂
+    (λ f₃. ap (joined at (b - 128)) (number_settles left m (at + 1) bs t (λ e. f₃ (ap (joined at (b - 128)) e))))))
 
-pub number-stays : (s t : List ℕ) (left most at : ℕ) (r : Found) → at ≤ length s → groupsAt s left most at ≡ r → (r ≡ Ends → ⊥) → groupsAt (s ++ t) left most at ≡ r
-number-stays s t left most at r inside e some =
-    ap (readNumber left most at) (drop-append-le at s t inside) ∙ number-settles left most at (drop at s) t (λ n. some (sym e ∙ n)) ∙ e
+pub number_stays : (s t : List ℕ) (left most at : ℕ) (r : Found) → at ≤ length s → groups_at s left most at ≡ r → (r ≡ Ends → ⊥) → groups_at (s ++ t) left most at ≡ r
+number_stays s t left most at r inside e some =
+    ap (read_number left most at) (drop-append-le at s t inside) ∙ number_settles left most at (drop at s) t (λ n. some (sym e ∙ n)) ∙ e
 
 -- ---- further on
 abbrev pub moved : ℕ → Found → Found
@@ -48,57 +48,57 @@ moved k Ends = Ends
 moved k (Bad p) = Bad (k + p)
 
 -- a choice, further on
-pub cond-moves : {A B : Type 0} (move : A → B) (t : Bool) (a b : A) (a' b' : B) → a' ≡ move a → b' ≡ move b → cond t a' b' ≡ move (cond t a b)
-cond-moves move true a b a' b' f g = f
-cond-moves move false a b a' b' f g = g
+pub cond_moves : {A B : Type 0} (move : A → B) (t : Bool) (a b : A) (a' b' : B) → a' ≡ move a → b' ≡ move b → cond t a' b' ≡ move (cond t a b)
+cond_moves move true a b a' b' f g = f
+cond_moves move false a b a' b' f g = g
 
-joined-moves : (k at low : ℕ) (r : Found) → joined (k + at) low (moved k r) ≡ moved k (joined at low r)
-joined-moves k at low Ends = refl
-joined-moves k at low (Bad p) = refl
-joined-moves k at low (Value v groups) = cond-moves (moved k) (eqb v 0) (Bad (at + 1)) (Value (low + 128 * v) (groups + 1)) _ _ (ap Bad (omega arith)) refl
+joined_moves : (k at low : ℕ) (r : Found) → joined (k + at) low (moved k r) ≡ moved k (joined at low r)
+joined_moves k at low Ends = refl
+joined_moves k at low (Bad p) = refl
+joined_moves k at low (Value v groups) = cond_moves (moved k) (eqb v 0) (Bad (at + 1)) (Value (low + 128 * v) (groups + 1)) _ _ (ap Bad (omega arith)) refl
 
-pub number-moves : (left most k at : ℕ) (bs : List ℕ) → readNumber left most (k + at) bs ≡ moved k (readNumber left most at bs)
-unfolding readNumber
-number-moves left most k at [] = refl
-number-moves zero most k at (b ∷ bs) = refl
-number-moves (suc left) most k at (b ∷ bs) =
+pub number_moves : (left most k at : ℕ) (bs : List ℕ) → read_number left most (k + at) bs ≡ moved k (read_number left most at bs)
+unfolding read_number
+number_moves left most k at [] = refl
+number_moves zero most k at (b ∷ bs) = refl
+number_moves (suc left) most k at (b ∷ bs) =
     let low : ℕ = b - 128 in
     let m : ℕ = (most - low) / 128 in
     let on : k + at + 1 ≡ k + (at + 1) = omega arith in
-    cond-moves (moved k) (ltb most b) (Bad at) _ _ _ refl
-    (cond-moves (moved k) (ltb b 128) (Value b 1) _ _ _ refl
-    (cond-moves (moved k) (eqb left 0) (Bad at) _ _ _ refl
-    (ap (λ (n : ℕ). joined (k + at) low (readNumber left m n bs)) on ∙ ap (joined (k + at) low) (number-moves left m k (at + 1) bs) ∙ joined-moves k at low (readNumber left m (at + 1) bs))))
+    cond_moves (moved k) (ltb most b) (Bad at) _ _ _ refl
+    (cond_moves (moved k) (ltb b 128) (Value b 1) _ _ _ refl
+    (cond_moves (moved k) (eqb left 0) (Bad at) _ _ _ refl
+    (ap (λ (n : ℕ). joined (k + at) low (read_number left m n bs)) on ∙ ap (joined (k + at) low) (number_moves left m k (at + 1) bs) ∙ joined_moves k at low (read_number left m (at + 1) bs))))
 
 -- ---- cut off
 -- a number at `at`, where only the bytes before the offset `end` are read
-abbrev pub cutNumber : ℕ → ℕ → Found → Found
-cutNumber at end (Value v groups) = cond (ltb end (at + groups)) Ends (Value v groups)
-cutNumber at end Ends = Ends
-cutNumber at end (Bad p) = cond (ltb end (p + 1)) Ends (Bad p)
+abbrev pub cut_number : ℕ → ℕ → Found → Found
+cut_number at end (Value v groups) = cond (ltb end (at + groups)) Ends (Value v groups)
+cut_number at end Ends = Ends
+cut_number at end (Bad p) = cond (ltb end (p + 1)) Ends (Bad p)
 
 -- what is read from the end on is cut off
-cut-whole : (left most at k end : ℕ) (r : Found) → Within left most at k r → end ≤ at → cutNumber at end r ≡ Ends
-cut-whole left most at k end (Value v groups) w h = rw (lt-ltb end (at + groups) (omega (arith, w.some)))
-cut-whole left most at k end Ends w h = refl
-cut-whole left most at k end (Bad p) w h = rw (lt-ltb end (p + 1) (omega arith))
+cut_whole : (left most at k end : ℕ) (r : Found) → Within left most at k r → end ≤ at → cut_number at end r ≡ Ends
+cut_whole left most at k end (Value v groups) w h = rw (lt-ltb end (at + groups) (omega (arith, w.some)))
+cut_whole left most at k end Ends w h = refl
+cut_whole left most at k end (Bad p) w h = rw (lt-ltb end (p + 1) (omega arith))
 
-joined-cut : (left most at k low end : ℕ) (r : Found) → Within left most (at + 1) k r → joined at low (cutNumber (at + 1) end r) ≡ cutNumber at end (joined at low r)
-joined-cut left most at k low end Ends w = refl
-joined-cut left most at k low end (Bad p) w = sym (cond-moves (joined at low) (ltb end (p + 1)) Ends (Bad p) _ _ refl refl)
-joined-cut left most at k low end (Value v groups) w =
-    sym (cond-moves (joined at low) (ltb end (at + 1 + groups)) Ends (Value v groups) _ _ refl refl) ∙ go (eqb v 0) refl
+joined_cut : (left most at k low end : ℕ) (r : Found) → Within left most (at + 1) k r → joined at low (cut_number (at + 1) end r) ≡ cut_number at end (joined at low r)
+joined_cut left most at k low end Ends w = refl
+joined_cut left most at k low end (Bad p) w = sym (cond_moves (joined at low) (ltb end (p + 1)) Ends (Bad p) _ _ refl refl)
+joined_cut left most at k low end (Value v groups) w =
+    sym (cond_moves (joined at low) (ltb end (at + 1 + groups)) Ends (Value v groups) _ _ refl refl) ∙ go (eqb v 0) refl
   where
     go : (t : Bool) → eqb v 0 ≡ t
-        → cond (ltb end (at + 1 + groups)) Ends (cond t (Bad (at + 1)) (Value (low + 128 * v) (groups + 1))) ≡ cutNumber at end (cond t (Bad (at + 1)) (Value (low + 128 * v) (groups + 1)))
-    go true e = ap (λ (n : ℕ). cond (ltb end (at + 1 + n)) Ends (Bad (at + 1))) (w.zero-short (eqb-true v 0 e))
+        → cond (ltb end (at + 1 + groups)) Ends (cond t (Bad (at + 1)) (Value (low + 128 * v) (groups + 1))) ≡ cut_number at end (cond t (Bad (at + 1)) (Value (low + 128 * v) (groups + 1)))
+    go true e = ap (λ (n : ℕ). cond (ltb end (at + 1 + n)) Ends (Bad (at + 1))) (w.zero_short (eqb-true v 0 e))
     go false e =
         let on : at + 1 + groups ≡ at + (groups + 1) = omega arith in
         ap (λ (n : ℕ). cond (ltb end n) Ends (Value (low + 128 * v) (groups + 1))) on
 
-number_cut : (left most at : ℕ) (bs t : List ℕ) → readNumber left most at bs ≡ cutNumber at (at + length bs) (readNumber left most at (bs ++ t))
-unfolding readNumber
-number_cut left most at [] t = sym (cut-whole left most at (length t) (at + 0) (readNumber left most at t) (number-within left most at t) (omega arith))
+number_cut : (left most at : ℕ) (bs t : List ℕ) → read_number left most at bs ≡ cut_number at (at + length bs) (read_number left most at (bs ++ t))
+unfolding read_number
+number_cut left most at [] t = sym (cut_whole left most at (length t) (at + 0) (read_number left most at t) (number-within left most at t) (omega arith))
 number_cut zero most at (b ∷ bs) t = rw (le-ltb (at + suc (length bs)) (at + 1) (omega arith))
 number_cut (suc left) most at (b ∷ bs) t =
     let low : ℕ = b - 128 in
@@ -106,17 +106,17 @@ number_cut (suc left) most at (b ∷ bs) t =
     let end : ℕ = at + suc (length bs) in
     let on : at + 1 + length bs ≡ end = omega arith in
     let here : ltb end (at + 1) ≡ false = le-ltb end (at + 1) (omega arith) in
-    cond-moves (cutNumber at end) (ltb most b) (Bad at) _ _ _ (rw here)
-    (cond-moves (cutNumber at end) (ltb b 128) (Value b 1) _ _ _ (rw here)
-    (cond-moves (cutNumber at end) (eqb left 0) (Bad at) _ _ _ (rw here)
-    (ap (joined at low) (number_cut left m (at + 1) bs t ∙ ap (λ (n : ℕ). cutNumber (at + 1) n (readNumber left m (at + 1) (bs ++ t))) on)
-    ∙ joined-cut left m at (length (bs ++ t)) low end (readNumber left m (at + 1) (bs ++ t)) (number-within left m (at + 1) (bs ++ t)))))
+    cond_moves (cut_number at end) (ltb most b) (Bad at) _ _ _ (rw here)
+    (cond_moves (cut_number at end) (ltb b 128) (Value b 1) _ _ _ (rw here)
+    (cond_moves (cut_number at end) (eqb left 0) (Bad at) _ _ _ (rw here)
+    (ap (joined at low) (number_cut left m (at + 1) bs t ∙ ap (λ (n : ℕ). cut_number (at + 1) n (read_number left m (at + 1) (bs ++ t))) on)
+    ∙ joined_cut left m at (length (bs ++ t)) low end (read_number left m (at + 1) (bs ++ t)) (number-within left m (at + 1) (bs ++ t)))))
 
-pub number-at-cut : (s t : List ℕ) (left most at : ℕ) → at ≤ length s → groupsAt s left most at ≡ cutNumber at (length s) (groupsAt (s ++ t) left most at)
-number-at-cut s t left most at h =
+pub number_at_cut : (s t : List ℕ) (left most at : ℕ) → at ≤ length s → groups_at s left most at ≡ cut_number at (length s) (groups_at (s ++ t) left most at)
+number_at_cut s t left most at h =
     let on : at + length (drop at s) ≡ length s = omega (arith, length-drop at s) in
     number_cut left most at (drop at s) t
-    ∙ (λ i. cutNumber at (on i) (readNumber left most at (sym (drop-append-le at s t h) i)))
+    ∙ (λ i. cut_number at (on i) (read_number left most at (sym (drop-append-le at s t h) i)))
 
 -- what the first byte of a number shows: not more than that a group follows
 abbrev pub Past : ℕ → Found → Type 0
@@ -124,19 +124,19 @@ Past at (Value v groups) = Unit
 Past at Ends = Unit
 Past at (Bad p) = at < p
 
-joined-past : (left most at k low : ℕ) (r : Found) → Within left most (at + 1) k r → Past at (joined at low r)
-joined-past left most at k low Ends w = tt
-joined-past left most at k low (Bad p) w = omega arith
-joined-past left most at k low (Value v groups) w = cond-elim (Past at) (eqb v 0) _ _ (λ _. omega arith) (λ _. tt)
+joined_past : (left most at k low : ℕ) (r : Found) → Within left most (at + 1) k r → Past at (joined at low r)
+joined_past left most at k low Ends w = tt
+joined_past left most at k low (Bad p) w = omega arith
+joined_past left most at k low (Value v groups) w = cond_elim (Past at) (eqb v 0) _ _ (λ _. omega arith) (λ _. tt)
 
-pub number_past : (left most at b : ℕ) (bs : List ℕ) → b ≤ most → Past at (readNumber (suc (suc left)) most at (b ∷ bs))
-unfolding readNumber
+pub number_past : (left most at b : ℕ) (bs : List ℕ) → b ≤ most → Past at (read_number (suc (suc left)) most at (b ∷ bs))
+unfolding read_number
 number_past left most at b bs h =
     let m : ℕ = (most - (b - 128)) / 128 in
-    cond-elim (Past at) (ltb most b) _ _ (λ e. absurd (different (omega (arith, ltb-true most b e))))
-    (λ _. cond-elim (Past at) (ltb b 128) _ _ (λ _. tt)
-    (λ _. cond-elim (Past at) (eqb (suc left) 0) _ _ (λ e. absurd (different (omega (arith, eqb-true (suc left) 0 e))))
-    (λ _. joined-past (suc left) m at (length bs) (b - 128) (readNumber (suc left) m (at + 1) bs) (number-within (suc left) m (at + 1) bs))))
+    cond_elim (Past at) (ltb most b) _ _ (λ e. absurd (different (omega (arith, ltb-true most b e))))
+    (λ _. cond_elim (Past at) (ltb b 128) _ _ (λ _. tt)
+    (λ _. cond_elim (Past at) (eqb (suc left) 0) _ _ (λ e. absurd (different (omega (arith, eqb-true (suc left) 0 e))))
+    (λ _. joined_past (suc left) m at (length bs) (b - 128) (read_number (suc left) m (at + 1) bs) (number-within (suc left) m (at + 1) bs))))
 
 -- ---- mended
 -- a number that is not 0, and has so many groups
@@ -146,9 +146,9 @@ Ended n Ends = ⊥
 Ended n (Bad p) = ⊥
 
 -- a choice that is `none` is the second, and where that is mended the choice is
-cond-mends : {A : Type 0} (Q : A → Type 0) (none : A) (t : Bool) (a b b' : A) → (a ≡ none → ⊥) → cond t a b ≡ none → (t ≡ false → b ≡ none → Q b') → Q (cond t a b')
+cond_mends : {A : Type 0} (Q : A → Type 0) (none : A) (t : Bool) (a b b' : A) → (a ≡ none → ⊥) → cond t a b ≡ none → (t ≡ false → b ≡ none → Q b') → Q (cond t a b')
 cond_mends Q none true a b b' some e f = absurd (some e)
-cond-mends Q none false a b b' some e f = f refl e
+cond_mends Q none false a b b' some e f = f refl e
 
 joined_mends : (at low n : ℕ) (r r' : Found) → joined at low r ≡ Ends → (r ≡ Ends → Ended n r') → Ended (suc n) (joined at low r')
 joined_mends at low n (Bad p) r' e f = absurd (different cc)

@@ -54,7 +54,7 @@ module _ (hear : Hearing) (s : List ℕ) where
         ∙ fuel (length s) (suc (length s)) _ _ _ next (omega (arith, w.starts, w.ends)) (omega arith)
 
     -- the same, by what hearing answered
-    pub run_on : (gap identifier remote start len next accepted : ℕ) (b' ds : List ℕ) → readRecord s at ≡ Record gap identifier remote start len next → ds ≡ take (start + len - start) (drop start s)
+    pub run_on : (gap identifier remote start len next accepted : ℕ) (b' ds : List ℕ) → read_record s at ≡ Record gap identifier remote start len next → ds ≡ take (start + len - start) (drop start s)
         → accepted ≡ one (hear b identifier remote ds).accepted → b' ≡ (hear b identifier remote ds).picture
         → run_on hear s b heard refused at ≡ run_on hear s b' (heard + accepted) (refused + (1 - accepted)) next
     run_on gap identifier remote start len next accepted b' ds e part answer left =

@@ -144,27 +144,27 @@ module _ (b : List ℕ) (address identifier : ℕ) (ours : Ours b address identi
   cell-stored : (x v : ℕ) (b' : List ℕ) → x ≤ 255 → b' ≡ done_by (telling (cell_place vmb8ir x) (v ∷ [])) b → Took b identifier 0 (0xFC ∷ 0 ∷ x ∷ v ∷ []) buffer 0 b' buffer
   unfolding replies done rows_of line_of
   cell-stored x v b' h e =
-      taken (0xFC ∷ 0 ∷ x ∷ v ∷ []) b' buffer (CellSet (record { 0 = x }) v) 0 (omega arith) (omega arith) refl (rw (near 255 (256 * 0 + x) (omega arith))) (ap (λ (n : ℕ). CellSet (record { 0 = n }) v) (above x)) (λ y. refl) (omega arith) e (sym (no_more buffer 0 (ownAddress b')))
+      taken (0xFC ∷ 0 ∷ x ∷ v ∷ []) b' buffer (CellSet (record { 0 = x }) v) 0 (omega arith) (omega arith) refl (rw (near 255 (256 * 0 + x) (omega arith))) (ap (λ (n : ℕ). CellSet (record { 0 = n }) v) (above x)) (λ y. refl) (omega arith) e (sym (no_more buffer 0 (own_address b')))
 
-  block-stored : (x v w y z : ℕ) (b' buffer' : List ℕ) → x ≤ 252 → 12 ≤ length buffer → b' ≡ doneBy (telling (cellPlace vmb8ir x) (v ∷ w ∷ y ∷ z ∷ [])) b
+  block-stored : (x v w y z : ℕ) (b' buffer' : List ℕ) → x ≤ 252 → 12 ≤ length buffer → b' ≡ done_by (telling (cell_place vmb8ir x) (v ∷ w ∷ y ∷ z ∷ [])) b
       → buffer' ≡ sets buffer 0 (all_bytes address (block b' x ∷ [])) → Took b identifier 0 (0xCA ∷ 0 ∷ x ∷ v ∷ w ∷ y ∷ z ∷ []) buffer 1 b' buffer'
   unfolding replies done rows_of line_of
   block-stored x v w y z b' buffer' h fits e f =
-      let own : own_address b' ≡ address = ap ownAddress e ∙ address_kept b x v w y z h ∙ sym ours.own in
+      let own : own_address b' ≡ address = ap own_address e ∙ address_kept b x v w y z h ∙ sym ours.own in
       taken (0xCA ∷ 0 ∷ x ∷ v ∷ w ∷ y ∷ z ∷ []) b' buffer' (BlockSet (record { 0 = x }) v w y z) 1 (omega arith) (omega arith) refl (rw (near 252 (256 * 0 + x) (omega arith))) (ap (λ (n : ℕ). BlockSet (record { 0 = n }) v w y z) (above x)) (λ y. refl) fits e (rw own f)
 
   all_lit : (on slow fast : ℕ) (b' : List ℕ) → b' ≡ done_by (all_leds on slow fast) b → Took b identifier 0 (0xF4 ∷ on ∷ slow ∷ fast ∷ []) buffer 0 b' buffer
   unfolding replies done rows_of line_of
-  all-lit on slow fast b' e =
-      taken (0xF4 ∷ on ∷ slow ∷ fast ∷ []) b' buffer (LedsAll on slow fast) 0 (omega arith) (omega arith) refl refl refl (λ y. refl) (omega arith) e (sym (no_more buffer 0 (ownAddress b')))
+  all_lit on slow fast b' e =
+      taken (0xF4 ∷ on ∷ slow ∷ fast ∷ []) b' buffer (LedsAll on slow fast) 0 (omega arith) (omega arith) refl refl refl (λ y. refl) (omega arith) e (sym (no_more buffer 0 (own_address b')))
 
   some_lit : (state mask : ℕ) (b' : List ℕ) → state ≤ 4 → b' ≡ done_by (some_leds mask state) b → Took b identifier 0 ((0xF5 + state) ∷ mask ∷ []) buffer 0 b' buffer
   unfolding replies done rows_of line_of
-  some-lit zero mask b' h e = taken (0xF5 ∷ mask ∷ []) b' buffer (Leds Off mask) 0 (omega arith) (omega arith) refl refl refl (λ y. refl) (omega arith) e (sym (no_more buffer 0 (ownAddress b')))
+  some_lit zero mask b' h e = taken (0xF5 ∷ mask ∷ []) b' buffer (Leds Off mask) 0 (omega arith) (omega arith) refl refl refl (λ y. refl) (omega arith) e (sym (no_more buffer 0 (own_address b')))
   some_lit (suc zero) mask b' h e = taken (0xF6 ∷ mask ∷ []) b' buffer (Leds On mask) 0 (omega arith) (omega arith) refl refl refl (λ y. refl) (omega arith) e (sym (no_more buffer 0 (own_address b')))
-  some-lit (suc (suc zero)) mask b' h e = taken (0xF7 ∷ mask ∷ []) b' buffer (Leds Slow mask) 0 (omega arith) (omega arith) refl refl refl (λ y. refl) (omega arith) e (sym (no_more buffer 0 (ownAddress b')))
+  some_lit (suc (suc zero)) mask b' h e = taken (0xF7 ∷ mask ∷ []) b' buffer (Leds Slow mask) 0 (omega arith) (omega arith) refl refl refl (λ y. refl) (omega arith) e (sym (no_more buffer 0 (own_address b')))
   some_lit (suc (suc (suc zero))) mask b' h e = taken (0xF8 ∷ mask ∷ []) b' buffer (Leds Fast mask) 0 (omega arith) (omega arith) refl refl refl (λ y. refl) (omega arith) e (sym (no_more buffer 0 (own_address b')))
-  some-lit (suc (suc (suc (suc zero)))) mask b' h e = taken (0xF9 ∷ mask ∷ []) b' buffer (Leds VeryFast mask) 0 (omega arith) (omega arith) refl refl refl (λ y. refl) (omega arith) e (sym (no_more buffer 0 (ownAddress b')))
+  some_lit (suc (suc (suc (suc zero)))) mask b' h e = taken (0xF9 ∷ mask ∷ []) b' buffer (Leds VeryFast mask) 0 (omega arith) (omega arith) refl refl refl (λ y. refl) (omega arith) e (sym (no_more buffer 0 (own_address b')))
   some_lit (suc (suc (suc (suc (suc n))))) mask b' h e = absurd (omega arith)
 
   -- the arms
@@ -210,8 +210,8 @@ module _ (b : List ℕ) (address identifier : ℕ) (ours : Ours b address identi
         let h = located_held 4 255 s t in
         to-shape (of_four s k h.sized ∙ rw h.high) (cell-stored (byte 3 s) (byte 4 s) b' h.low_byte e)
 
-    pub block-set : (b' buffer' : List ℕ) → byte 1 s ≡ 0xCA → located 7 252 s && leb 12 (length buffer) ≡ true
-        → b' ≡ doneBy (telling (cellPlace vmb8ir (byte 3 s)) (byte 4 s ∷ byte 5 s ∷ byte 6 s ∷ byte 7 s ∷ [])) b → buffer' ≡ sets buffer 0 (all_bytes address (block b' (byte 3 s) ∷ []))
+    pub block_set : (b' buffer' : List ℕ) → byte 1 s ≡ 0xCA → located 7 252 s && leb 12 (length buffer) ≡ true
+        → b' ≡ done_by (telling (cell_place vmb8ir (byte 3 s)) (byte 4 s ∷ byte 5 s ∷ byte 6 s ∷ byte 7 s ∷ [])) b → buffer' ≡ sets buffer 0 (all_bytes address (block b' (byte 3 s) ∷ []))
         → Took b identifier 0 s buffer 1 b' buffer'
     block_set b' buffer' k t e f =
         let g = both_held (located 7 252 s) 12 buffer t in
@@ -221,5 +221,5 @@ module _ (b : List ℕ) (address identifier : ℕ) (ours : Ours b address identi
     pub leds-set : (b' : List ℕ) → byte 1 s ≡ 0xF4 → length s ≡ 4 → b' ≡ done_by (all_leds (byte 2 s) (byte 3 s) (byte 4 s)) b → Took b identifier 0 s buffer 0 b' buffer
     leds-set b' k t e = to-shape (of_four s k t) (all_lit (byte 2 s) (byte 3 s) (byte 4 s) b' e)
 
-    pub some-leds-set : (state : ℕ) (b' : List ℕ) → state ≤ 4 → byte 1 s ≡ 0xF5 + state → length s ≡ 2 → b' ≡ doneBy (someLeds (byte 2 s) state) b → Took b identifier 0 s buffer 0 b' buffer
-    some_leds-set state b' h k t e = to-shape (of_two s k t) (some-lit state (byte 2 s) b' h e)
+    pub some_leds-set : (state : ℕ) (b' : List ℕ) → state ≤ 4 → byte 1 s ≡ 0xF5 + state → length s ≡ 2 → b' ≡ done_by (some_leds (byte 2 s) state) b → Took b identifier 0 s buffer 0 b' buffer
+    some_leds-set state b' h k t e = to-shape (of_two s k t) (some_lit state (byte 2 s) b' h e)

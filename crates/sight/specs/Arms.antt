@@ -20,7 +20,7 @@ pub record Ours (b : List ℕ) (address identifier : ℕ) : Type 0 where
 pub record Took (b : List ℕ) (identifier remote : ℕ) (s buffer : List ℕ) (word : ℕ) (b' buffer' : List ℕ) : Type 0 where
   pub answered : word ≡ taken_word (taking b identifier remote s buffer).answer
   pub bench_after : b' ≡ (taking b identifier remote s buffer).bench
-  pub buffer-after : buffer' ≡ (taking b identifier remote s buffer).buffer
+  pub buffer_after : buffer' ≡ (taking b identifier remote s buffer).buffer
 
 -- a frame of lowest priority from an address, in a buffer
 abbrev pub laid : ℕ → Data → List ℕ

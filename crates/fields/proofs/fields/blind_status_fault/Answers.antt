@@ -6,4 +6,4 @@ use borrow.Author.Rules.{rules}
 use Rattle.fields.proofs.fields.blind_status_fault.Goals as goal
 
 pub returns : goal.returns
-returns c = rw (told _ 2 _ refl, told _ 3 _ refl, told _ 4 _ refl, told _ 5 _ refl, c.unless-2.ensures, c.is_blind_lem.ensures, c.unless-third.ensures, c.unless.ensures, c.state_allowed.ensures, c.unless-fifth.ensures, c.either.ensures, c.one_bit.ensures)
+returns c = rw (told _ 2 _ refl, told _ 3 _ refl, told _ 4 _ refl, told _ 5 _ refl, c.unless-2.ensures, c.is_blind.ensures, c.unless-third.ensures, c.unless.ensures, c.state_allowed.ensures, c.unless-fifth.ensures, c.either.ensures, c.one_bit.ensures)

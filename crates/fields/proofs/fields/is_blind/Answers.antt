@@ -8,6 +8,7 @@ use Rattle.kinds.proofs.Listed.{other_line}
 use borrow.Author.Rules.{rules}
 use Rattle.fields.proofs.fields.is_blind.Goals as goal
 
+-- a look through a list of one and of two numbers
 one_of : (a : Bool) → a ≡ cond a true false
 one_of true = refl
 one_of false = refl

@@ -6,4 +6,4 @@ use borrow.Author.Rules.{rules}
 use Rattle.fields.proofs.fields.stop_fault.Goals as goal
 
 pub returns : goal.returns
-returns c = rw (told _ 2 _ refl, c.unless.ensures, c.is_blind_lem.ensures)
+returns c = rw (told _ 2 _ refl, c.unless.ensures, c.is_blind.ensures)

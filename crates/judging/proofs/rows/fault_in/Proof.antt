@@ -50,7 +50,7 @@ returns-14 : tie.Need-returns-14
 returns-14 c = let a = c.before.before.before.before.args in arm a.own 0x04 (data_of a.«data».now) (sym c.before.before.before.before.requires ∙ c.before.before.match.keys14) (rw c.before.byte-at14.ensures at c.stop-fault.ensures)
 
 returns-15 : tie.Need-returns-15
-returns-15 c = let a = c.before.before.before.before.before.args in arm a.own 0x05 (data_of a.«data».now) (sym c.before.before.before.before.before.requires ∙ c.before.before.before.match.keys15) (rw (c.before.time-in.ensures, c.before.before.byte-at15.ensures) at c.timed-fault.ensures)
+returns-15 c = let a = c.before.before.before.before.before.args in arm a.own 0x05 (data_of a.«data».now) (sym c.before.before.before.before.before.requires ∙ c.before.before.before.match.keys15) (rw (c.before.time_in_lem.ensures, c.before.before.byte-at15.ensures) at c.timed-fault.ensures)
 
 returns-16 : tie.Need-returns-16
 returns-16 c = let a = c.before.before.before.before.before.args in arm a.own 0x06 (data_of a.«data».now) (sym c.before.before.before.before.before.requires ∙ c.before.before.before.match.keys16) (rw (c.before.time-in2.ensures, c.before.before.byte-at16.ensures) at c.timed-fault2.ensures)
