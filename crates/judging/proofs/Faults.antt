@@ -20,7 +20,7 @@ use Rattle.fields.specs.Fields.{fault, field_refusal}
 use Rattle.judging.specs.Reading.{by_row, row_refusal, command_refusal}
 use Rattle.frame.specs.declared.bytes.Data.{Data}
 use Rattle.frame.specs.declared.messages.Command.{Command}
-use Rattle.judging.proofs.Numbers.{behind, by_row}
+use Rattle.judging.proofs.Numbers.{behind, by_row_lem}
 
 pub arm : (own c : ℕ) (d : Data) → d.1 ≡ c → {r : ℕ} → r ≡ field_refusal (fault own (decode (behind c d))) → r ≡ field_refusal (fault own (decode (bytes_of d)))
 arm own c d e h = h ∙ ap (λ (k : ℕ). field_refusal (fault own (decode (behind k d)))) (sym e)
@@ -50,10 +50,10 @@ module _ (own p : ℕ) (d : Data) (m : Command) {c n : ℕ} (first : c ≡ d.1) 
   misfit = rw (← first) row
 
   pub misfitted : (n ≡ 0 → ⊥) → n ≡ row_refusal own p d m
-  misfitted h = rw (by_row own d.1 d.0 p (fault own m), ← misfit, ne_eqb n 0 h)
+  misfitted h = rw (by_row_lem own d.1 d.0 p (fault own m), ← misfit, ne_eqb n 0 h)
 
   pub fitted : n ≡ 0 → {r : ℕ} → r ≡ field_refusal (fault own m) → r ≡ row_refusal own p d m
-  fitted z e = rw (by_row own d.1 d.0 p (fault own m), ← misfit, eq-eqb n 0 z) e
+  fitted z e = rw (by_row_lem own d.1 d.0 p (fault own m), ← misfit, eq-eqb n 0 z) e
 
 module _ (kind p : ℕ) (d : Data) (m : Command) {c : ℕ} (first : c ≡ d.1) where
   pub of_no_type : (c ≡ type_command → ⊥) → kind ≡ no_type → type_not_known ≡ command_refusal kind p d m

@@ -1,6 +1,6 @@
 -- The number of a reading, and the reading that a number stands for.
 --     behind             the bytes of a frame behind a command
---     by_row             the fields decide where the row has nothing against a frame
+--     by_row_lem         the fields decide where the row has nothing against a frame
 --     frame_number       what the frame is refused for, whatever it says
 --     request_number     what a remote frame is refused for
 --     command-number     what a frame with data is refused for
@@ -36,10 +36,10 @@ use Rattle.frame.specs.declared.messages.Reading.TheVariants.{Read, Refused}
 abbrev pub behind : ℕ → Data → List ℕ
 behind c d = c ∷ d.2 ∷ d.3 ∷ d.4 ∷ d.5 ∷ d.6 ∷ d.7 ∷ d.8 ∷ []
 
-pub by_row :
+pub by_row_lem :
     (kind c count priority fault : ℕ) →
     by_row kind c count priority fault ≡ cond (eqb (by_row kind c count priority 0) 0) (field_refusal fault) (by_row kind c count priority 0)
-by_row kind c count priority fault = go (is_listed kind c) (eqb count (row_for kind c).0) (eqb priority (row_for kind c).1)
+by_row_lem kind c count priority fault = go (is_listed kind c) (eqb count (row_for kind c).0) (eqb priority (row_for kind c).1)
   where
     chain : (a b p : Bool) → ℕ → ℕ
     chain a b p later = unless a not_listed (unless b wrong_length (unless p wrong_priority later))
