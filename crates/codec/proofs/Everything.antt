@@ -145,8 +145,8 @@ module _ (kind : ℕ) (a : Address) (s : List ℕ) (ha : a.0 < 256) (small : All
       reads_made kind p a s (module_handed kind (listed_module kind c r.listed)) (row_known kind c) (row_priority kind c) ha some short
       ∙ ap (λ (n : ℕ). unless_refused Refused n (Read a (Tells m))) judged
 
-  read_as : ReadAs kind c a s
-  read_as = record {
+  read_as_lem : ReadAs kind c a s
+  read_as_lem = record {
     says = m;
     documented = subst (λ (t : List ℕ). Documented t m) all_bytes_lem (defined kind c d r.listed r.own (small 1, small 2, small 3, small 4));
     read = λ f. made ∙ rw (eq-eqb (fault kind m) 0 f);
@@ -155,4 +155,4 @@ module _ (kind : ℕ) (a : Address) (s : List ℕ) (ha : a.0 < 256) (small : All
 
 pub every_frame : EveryFrame
 every_frame kind c a s ha small r =
-    subst (λ (k : ℕ). ReadAs kind k a s) r.begins (read_as kind a s ha small (subst (λ (k : ℕ). OfRow kind k s) (sym r.begins) r))
+    subst (λ (k : ℕ). ReadAs kind k a s) r.begins (read_as_lem kind a s ha small (subst (λ (k : ℕ). OfRow kind k s) (sym r.begins) r))

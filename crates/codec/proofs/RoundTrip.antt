@@ -57,8 +57,8 @@ own_inside : (kind : ℕ) (d : Data) → d.1 ≡ type_command → d.2 ≡ own_ty
 own_inside kind d q = rw (eq-eqb d.1 type_command q)
 
 -- the bytes that were read are the bytes that are written
-same_bytes : (kind p : ℕ) (s : List ℕ) → AllBytes s → length s ≤ 8 → Listed (own_type kind (data_of s)) p (data_of s) (decode (padded s)) → encode (decode (padded s)) ≡ s
-same_bytes kind p s small short j =
+same_bytes_lem : (kind p : ℕ) (s : List ℕ) → AllBytes s → length s ≤ 8 → Listed (own_type kind (data_of s)) p (data_of s) (decode (padded s)) → encode (decode (padded s)) ≡ s
+same_bytes_lem kind p s small short j =
     let e : ℕ = own_type kind (data_of s) in
     forth e (byte 1 s) (data_of s) j.listed (own_inside kind (data_of s)) (small 1, small 2, small 3, small 4)
     ∙ ap (λ (n : ℕ). take n (padded s)) (sym (eqb-true (length s) (row_for e (byte 1 s)).0 j.sized))
@@ -87,7 +87,7 @@ command_again kind i s a m small f short h =
     let x : Command = decode (padded s) in
     let u = unrefused r.Refused (command_refusal kind (priority_of i) d x) (r.Read (address_of i) (Tells x)) (r.Read a m) (refused_not_read _ a m) h in
     let j = command_held kind (priority_of i) d x u.0 in
-    let b : encode x ≡ s = same_bytes kind (priority_of i) s small short j in
+    let b : encode x ≡ s = same_bytes_lem kind (priority_of i) s small short j in
     let e = same_read (address_of i) a (Tells x) m u.1 in
     let q : (row_for (own_type kind d) d.1).1 ≡ priority_of i = sym (eqb-true (priority_of i) (row_for (own_type kind d) d.1).1 j.level) in
     record {

@@ -10,7 +10,7 @@ use frame::{Address, Command, Data, LOW, Message, TYPE_FRAME, row_for};
 use kinds::{NO_TYPE, handed_type};
 use laws::{BAD_TYPE, NOT_LISTED, TYPE_NOT_KNOWN, either, wide32};
 
-#[derive(Drop)]
+#[derive(Clone, Copy)]
 pub struct Frame {
     pub identifier: u32,
     pub remote: u32,
@@ -18,7 +18,7 @@ pub struct Frame {
 }
 
 // What a message is written as: the frame, or a refusal, a 9 with its byte.
-#[derive(Drop)]
+#[derive(Clone, Copy)]
 pub enum Writing {
     Written(Frame),
     Refused(u16),

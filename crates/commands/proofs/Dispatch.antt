@@ -1,6 +1,6 @@
 -- The number of a command that no arm is for.
 --     none-listed        a command that is neither of the single ones nor of those in a row is refused with 6
---     too_short, no_slot, no_module     what is refused before its command is looked at
+--     too_short_lem, no_slot, no_module     what is refused before its command is looked at
 -- Assumes nothing.
 use Rattle.std.proofs.Common.{◌≡◌, ℕ, ◌<◌, ◌≤◌, Bool, true, false, not, ◌||◌, eqb, List, [], ◌∷◌, length, sym, refl, ◌∙◌, arith, le-ltb, lt-ltb, ne_eqb}
 use Rattle.laws.specs.Refusals.{too_short, type_not_known, not_listed}
@@ -48,9 +48,9 @@ unlisted kind c x y z = go (is_listed kind c) refl
         not_both (sym z ∙ or_right (among c row_commands) (eqb c type_command) (or_right (among c single) (among c row_commands || eqb c type_command) a x) y)
 
 module _ (b : List ℕ) (slot kind priority : ℕ) (s : List ℕ) where
-  pub too_short : length b < size → Heard b slot kind priority s too_short b
+  pub too_short_lem : length b < size → Heard b slot kind priority s too_short b
   unfolding command_number
-  too_short h = refusing b slot kind priority s (rw (lt-ltb (length b) size h)) (λ z. omega arith) refl
+  too_short_lem h = refusing b slot kind priority s (rw (lt-ltb (length b) size h)) (λ z. omega arith) refl
 
   module _ (whole : size ≤ length b) where
     pub no_slot : room ≤ slot → Heard b slot kind priority s type_not_known b

@@ -127,10 +127,10 @@ outcome-word : (o : Outcome) → outcome_word o ≡ word_of (verdict_of_outcome 
 outcome-word outcome.Done = refl
 outcome-word (outcome.Refused n) = refl
 
-answer_word : (x : Answer) → answer_word x ≡ word_of (verdict_of_answer x) (value_of x % values)
-answer_word (answer.Value v) = refl
-answer_word answer.NotHeard = refl
-answer_word (answer.Refused n) = refl
+answer_word_lem : (x : Answer) → answer_word x ≡ word_of (verdict_of_answer x) (value_of x % values)
+answer_word_lem (answer.Value v) = refl
+answer_word_lem answer.NotHeard = refl
+answer_word_lem (answer.Refused n) = refl
 
 pub words : Words
 words =
@@ -138,7 +138,7 @@ words =
       apart = apart;
       of_refusal = of_refusal;
       of_outcome = outcome-word;
-      of_answer = answer_word;
+      of_answer = answer_word_lem;
       put_record = λ b at gap identifier remote ds.
           puts b at gap identifier remote ds (λ v. word_of v (length (record_bytes gap identifier remote ds) % values)) put_word (λ n. refl) refl;
       read = λ kind identifier remote s out.

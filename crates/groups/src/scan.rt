@@ -4,7 +4,7 @@ ghost use Rattle.groups.specs.Number.{read_number};
 
 // What reading a number finds: the value, and the count of groups that it takes; the input's end inside the number; or the
 // offset of the first byte that no allowed number can have there.
-#[derive(Drop)]
+#[derive(Clone, Copy)]
 pub enum Found {
     Value(u64, usize),
     Ends,

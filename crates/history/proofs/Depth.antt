@@ -70,18 +70,18 @@ unfolding answered granted outcome_of
 none-answered h = rw (none_kept h)
 
 -- it stands after one frame more
-one_more : (j : Judgement) (g : Frame) {S : List Frame} {f : Frame} {before : List Frame} → StillStands S f before → StillStands (stands j g S) f before
+one_more_lem : (j : Judgement) (g : Frame) {S : List Frame} {f : Frame} {before : List Frame} → StillStands S f before → StillStands (stands j g S) f before
 unfolding stands
-one_more (refused n) g s = s
-one_more accepted g s = record { since = g ∷ s.since; are = ap (λ (T : List Frame). g ∷ T) s.are }
-one_more exchanged g s = record { since = g ∷ s.since; are = ap (λ (T : List Frame). g ∷ T) s.are }
+one_more_lem (refused n) g s = s
+one_more_lem accepted g s = record { since = g ∷ s.since; are = ap (λ (T : List Frame). g ∷ T) s.are }
+one_more_lem exchanged g s = record { since = g ∷ s.since; are = ap (λ (T : List Frame). g ∷ T) s.are }
 
 still_stands : (h : List Event) (f : Frame) → standing 0 (hear f ∷ h) ≡ f ∷ standing 0 h → (later : List Event)
     → StillStands (standing 0 (later ++ (hear f ∷ h))) f (standing 0 h)
 unfolding standing
 still_stands h f e [] = record { since = []; are = e }
 still_stands h f e (back ∷ later) = rw (nothing_struck (later ++ (hear f ∷ h))) (still_stands h f e later)
-still_stands h f e (hear g ∷ later) = one_more (judgement (standing 0 (later ++ (hear f ∷ h))) g) g (still_stands h f e later)
+still_stands h f e (hear g ∷ later) = one_more_lem (judgement (standing 0 (later ++ (hear f ∷ h))) g) g (still_stands h f e later)
 
 pub none_at_zero : NoneAtZero
 none_at_zero b whole h =

@@ -29,12 +29,12 @@ unfolding listed_below type_of
 none_below zero = refl
 none_below (suc n) = rw (none_below n)
 
-one_more : (t : Option ℕ) (r : Meaning) (n : ℕ) → yes_if (typed true r t) + n ≡ more t r (yes_if t + n)
+one_more_lem : (t : Option ℕ) (r : Meaning) (n : ℕ) → yes_if (typed true r t) + n ≡ more t r (yes_if t + n)
 unfolding typed more
-one_more t (refuses c) n = refl
-one_more t (names r) n = refl
-one_more none (enters k r) n = omega arith
-one_more (some t) (enters k r) n = refl
+one_more_lem t (refuses c) n = refl
+one_more_lem t (names r) n = refl
+one_more_lem none (enters k r) n = omega arith
+one_more_lem (some t) (enters k r) n = refl
 
 more_later : (t : Option ℕ) (r : Meaning) (x n : ℕ) → x + more t r n ≡ more t r (x + n)
 unfolding more
@@ -59,7 +59,7 @@ module _ (f : Frame) (S : List Frame) where
           → yes_if (type_of (f ∷ S) n) + listed_below n (f ∷ S) ≡ more (type_of S (address f)) (meaning (type_of S (address f)) f) (yes_if (type_of S n) + listed_below n S)
       go true e ih =
           rw (← (eqb-true (address f) n e), above (address f) (omega arith), here_type f S (meaning (type_of S (address f)) f) refl)
-          (one_more _ _ _)
+          (one_more_lem _ _ _)
       go false e ih = let d : address f ≢ n = eqb-false (address f) n e in rw (other_type f S n e, ih (omega arith)) (more_later _ _ _ _)
 
 below_all : (f : Frame) → address f < addresses

@@ -53,18 +53,18 @@ module _ (name : ℕ → Known) where
   all (suc n) h = omega (arith, all n (λ i l. h i (omega arith)), h n (omega arith))
 
 -- ---- the count is the number of those told
-one_more : (ks : List Known) (k : Known) → length (only_told (ks ++ (k ∷ []))) ≡ length (only_told ks) + heard_of k
+one_more_lem : (ks : List Known) (k : Known) → length (only_told (ks ++ (k ∷ []))) ≡ length (only_told ks) + heard_of k
 unfolding only_told
-one_more [] unknown = refl
-one_more [] (told v) = refl
-one_more (unknown ∷ ks) k = one_more ks k
-one_more (told v ∷ ks) k = omega (arith, one_more ks k)
+one_more_lem [] unknown = refl
+one_more_lem [] (told v) = refl
+one_more_lem (unknown ∷ ks) k = one_more_lem ks k
+one_more_lem (told v ∷ ks) k = omega (arith, one_more_lem ks k)
 
 as_many : (name : ℕ → Known) (n : ℕ) → count_told n name ≡ length (only_told (tab n name))
 unfolding count_told tab only_told
 as_many name zero = refl
 as_many name (suc n) =
-    let more : length (only_told (tab (suc n) name)) ≡ length (only_told (tab n name)) + heard_of (name n) = ap (λ (ks : List Known). length (only_told ks)) (tab_snoc n name) ∙ one_more (tab n name) (name n) in
+    let more : length (only_told (tab (suc n) name)) ≡ length (only_told (tab n name)) + heard_of (name n) = ap (λ (ks : List Known). length (only_told ks)) (tab_snoc n name) ∙ one_more_lem (tab n name) (name n) in
     omega (arith, as_many name n, more)
 
 pub whole_is_sixteen : WholeIsSixteen

@@ -156,9 +156,9 @@ module _ (b : List ℕ) (k n : ℕ) (whole : size ≤ length b) where
       (rw (kept-stored, next_stored, q, tab_ext ring (undo_at (set (set b kept_at k) next_at n)) (undo_at b) (λ e l. undo-apart within_steer e (λ o p q x y. omega arith))))
 
 -- a step counted
-one_more : (b : List ℕ) → kept_of b ≤ depth_of b → one_more b ≡ set b kept_at (min (depth_of b) (suc (kept_of b)))
+one_more_lem : (b : List ℕ) → kept_of b ≤ depth_of b → one_more b ≡ set b kept_at (min (depth_of b) (suc (kept_of b)))
 unfolding kept_of
-one_more b h = go (ltb (get_or b kept_at 0) (depth_of b)) refl
+one_more_lem b h = go (ltb (get_or b kept_at 0) (depth_of b)) refl
   where
     go : (c : Bool) → ltb (get_or b kept_at 0) (depth_of b) ≡ c → cond c (set b kept_at (suc (get_or b kept_at 0))) b ≡ set b kept_at (min (depth_of b) (suc (get_or b kept_at 0)))
     go true e =
@@ -201,7 +201,7 @@ module _ (b d : List ℕ) (u : Undo) (ms : List Module) (does : Does b d u ms) (
 
   counted : stepped d ≡ set (set d kept_at (min (depth_of b) (suc (kept_of b)))) next_at ((get_or b next_at 0 + 1) % 256)
   unfolding stepped
-  counted = rw (one_more d (rw (kept_same, does.logs.depth_is) few), kept_same, does.logs.depth_is, does.logs.next_is)
+  counted = rw (one_more_lem d (rw (kept_same, does.logs.depth_is) few), kept_same, does.logs.depth_is, does.logs.next_is)
 
   pub stepped_good : Good (stepped d)
   stepped_good = rw counted (steer_good d _ _ does.good.whole does.good)

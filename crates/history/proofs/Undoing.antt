@@ -159,9 +159,9 @@ module _ (b : List ℕ) (e : ℕ) (good : Good b) (e-ok : e < ring) where
   abbrev back : ℕ → Undo
   back o = wrote (record_of o) (place_of o) (tab most_places (old_cell b e (place_of o)))
 
-  back_at : (o : ℕ) → o ≤ ring_at - old_size → Found (wrote_at b e o) → Undone b (copied b o (old_at e) old_size) (wrote_at b e o)
+  back_at_lem : (o : ℕ) → o ≤ ring_at - old_size → Found (wrote_at b e o) → Undone b (copied b o (old_at e) old_size) (wrote_at b e o)
   unfolding wrote_at
-  back_at o low = go (eqb (place_at (record_of o) (place_of o)) o && ltb (place_of o) places) refl
+  back_at_lem o low = go (eqb (place_at (record_of o) (place_of o)) o && ltb (place_of o) places) refl
     where
       go : (t : Bool) → (eqb (place_at (record_of o) (place_of o)) o && ltb (place_of o) places) ≡ t → Found (cond t (back o) lost) → Undone b (copied b o (old_at e) old_size) (cond t (back o) lost)
       go false t found = absurd found
@@ -189,6 +189,6 @@ module _ (b : List ℕ) (e : ℕ) (good : Good b) (e-ok : e < ring) where
     where
       go : (low enter : Bool) → leb (offset_of b e) (ring_at - old_size) ≡ low → Found (entry low enter)
           → Undone b (cond low (copied b (offset_of b e) (old_at e) old_size) (cond enter (set b count_at (pred (modules_of b))) b)) (entry low enter)
-      go true enter t found = back_at (offset_of b e) (leb-true (offset_of b e) (ring_at - old_size) t) found
+      go true enter t found = back_at_lem (offset_of b e) (leb-true (offset_of b e) (ring_at - old_size) t) found
       go false true t found = last_undone
       go false false t found = nothing_undone

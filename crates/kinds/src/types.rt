@@ -14,11 +14,11 @@ pub const VMB8IR: u32 = 0x0A;
 pub const VMB2BL: u32 = 0x09;
 
 // A command's length and its priority; length 0 where the type has no such command.
-#[derive(Drop)]
+#[derive(Clone, Copy)]
 pub struct Row(pub usize, pub u32);
 
 // How much a type has.
-#[derive(Drop)]
+#[derive(Clone, Copy)]
 pub struct Extent {
     pub cells: u32,
     pub names: u32,

@@ -102,14 +102,14 @@ again a (Tells m) h = command_again a m h
 self : (x : ℕ) → eqb x x ≡ true
 self x = eq-eqb x x refl
 
-same_six_self : (s : Six) → same_six s s ≡ true
+same-six_self : (s : Six) → same_six s s ≡ true
 unfolding same_six
-same_six_self s = rw (self s.0, self s.1, self s.2, self s.3, self s.4, self s.5)
+same-six_self s = rw (self s.0, self s.1, self s.2, self s.3, self s.4, self s.5)
 
 same_self : (p : Parts) → same_parts p p ≡ true
 unfolding same_parts
 same_self p =
-    rw (self p.what, self p.address, self p.channel, self p.glow, self p.location, same_six_self p.bytes, self p.time, self p.seconds)
+    rw (self p.what, self p.address, self p.channel, self p.glow, self p.location, same-six_self p.bytes, self p.time, self p.seconds)
 
 holds_itself : (a : Address) (m : Message) → (parts_of a m).what < no_message → held_by (parts_of a m) ≡ Holds a m
 unfolding held_by

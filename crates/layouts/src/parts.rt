@@ -28,11 +28,11 @@ use laws::both;
 use places::glow_number;
 
 // The bytes of a frame that have no field of their own, in their order.
-#[derive(Drop)]
+#[derive(Clone, Copy)]
 pub struct Six(pub u8, pub u8, pub u8, pub u8, pub u8, pub u8);
 
 // `what` is the message's own number; a field that a message does not have is 0.
-#[derive(Drop)]
+#[derive(Clone, Copy)]
 pub struct Parts {
     pub what: u8,
     pub address: u8,
@@ -55,7 +55,7 @@ const TWO_BLINDS: u8 = VMB2BL as u8;
 const NO_MESSAGE: u8 = 255;
 
 // The message that some parts are, with its address.
-#[derive(Drop)]
+#[derive(Clone, Copy)]
 pub enum Held {
     Holds(Address, Message),
     Nothing,

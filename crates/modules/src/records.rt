@@ -13,7 +13,7 @@ use stores::{put_build, put_pair};
 const HALF: u32 = 256;
 
 // A half of a record's places: their values, and for each 1 where it is not heard.
-#[derive(Drop)]
+#[derive(Clone, Copy)]
 struct Half {
     values: [u8; 256],
     unheard: [u8; 256],

@@ -19,7 +19,7 @@ use Rattle.frame.proofs.Commands.{type_shaped}
 use Rattle.frame.specs.declared.messages.Command.{Command}
 use Rattle.frame.specs.declared.messages.Command.TheVariants.{TypeLong, TypeShort}
 use Rattle.places.specs.Runs.{names, enters, build_told, meaning_of, run_in, command_of}
-use Rattle.places.proofs.Readers.{AllRead, read_as}
+use Rattle.places.proofs.Readers.{AllRead, read_as_lem}
 
 abbrev bytes_by_lem : ℕ → List ℕ → List ℕ
 bytes_by_lem k s = k ∷ byte 2 s ∷ byte 3 s ∷ byte 4 s ∷ byte 5 s ∷ byte 6 s ∷ byte 7 s ∷ byte 8 s ∷ []
@@ -48,7 +48,7 @@ readers-name kind d =
 
 pub names_run : (kind : ℕ) (s : List ℕ) → NotType (byte 1 s) → meaning_of kind (command_of s) ≡ names (run_in (meaning_of kind (command_of s)))
 unfolding meaning_of
-names_run kind s n = read_as NotType (Names kind) (bytes_by_lem (byte 1 s) s) (readers-name kind (bytes_by_lem (byte 1 s) s)) refl n
+names_run kind s n = read_as_lem NotType (Names kind) (bytes_by_lem (byte 1 s) s) (readers-name kind (bytes_by_lem (byte 1 s) s)) refl n
 
 pub type_by : (s : List ℕ) {c : ℕ} → c ≡ byte 1 s → c ≡ type_command → command_of s ≡ type_frame s
 type_by s e q = rw (← e, q)

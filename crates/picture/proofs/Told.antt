@@ -47,9 +47,9 @@ module _ (b : List ℕ) (slot identifier remote : ℕ) (s : List ℕ) (kind : �
   abbrev row : ℕ
   row = row_refusal kind (priority_of identifier) (data_of s) (command_of s)
 
-  by_row : n ≡ row
+  by_row_lem : n ≡ row
   unfolding command_number
-  by_row =
+  by_row_lem =
       let others : not (eqb (byte 1 s) type_command) ≡ true = ap not (ne_eqb (byte 1 s) type_command (λ h. other (first ∙ h))) in
       e ∙ all-passed (not (short b)) (ltb slot room) (not (eqb (byte 1 s) type_command)) row (ap not (le-ltb (length b) size long)) (lt-ltb slot room listed) others
 
@@ -57,13 +57,13 @@ module _ (b : List ℕ) (slot identifier remote : ℕ) (s : List ℕ) (kind : �
   number_at h m f = command-number kind identifier remote s (framed b slot identifier remote s kind k passed h) refl q f
 
   is_module : n ≡ 0 → among kind module_types ≡ true
-  is_module z = listed_module kind (byte 1 s) (row_held kind (priority_of identifier) (data_of s) (command_of s) (sym by_row ∙ z)).listed
+  is_module z = listed_module kind (byte 1 s) (row_held kind (priority_of identifier) (data_of s) (command_of s) (sym by_row_lem ∙ z)).listed
 
   pub command_heard : n ≡ 0 → Heard 0 x (hearing_at b slot identifier remote s)
   unfolding hearing_as command_bytes
   command_heard z =
       let m = is_module z in
-      let zero : 0 ≡ command_refusal kind (priority_of identifier) (data_of s) (command_of s) = by-handed kind (priority_of identifier) (data_of s) (command_of s) first other (nonzero kind (module_some kind m)) (sym z ∙ by_row) in
+      let zero : 0 ≡ command_refusal kind (priority_of identifier) (data_of s) (command_of s) = by-handed kind (priority_of identifier) (data_of s) (command_of s) first other (nonzero kind (module_some kind m)) (sym z ∙ by_row_lem) in
       let here = told b slot identifier remote s k (number_at (module_handed kind m) 0 zero) refl q in
       let run = names_run kind s (rw (← first) (not_type c other)) in
       (rw (here, run), rw (here, run) (t ∙ rw (← e, z)))
@@ -79,7 +79,7 @@ module _ (b : List ℕ) (slot identifier remote : ℕ) (s : List ℕ) (kind : �
           let r = as_refused b slot identifier remote s kind k type_not_known (number_at h type_not_known f) (λ y. omega arith) in
           (r.0, same ∙ r.1)
       go true false h w same =
-          let f = by-handed kind (priority_of identifier) (data_of s) (command_of s) first other (eqb-false kind no_type w) by_row in
+          let f = by-handed kind (priority_of identifier) (data_of s) (command_of s) first other (eqb-false kind no_type w) by_row_lem in
           let r = as_refused b slot identifier remote s kind k n (number_at h n f) z in
           (r.0, same ∙ r.1)
 

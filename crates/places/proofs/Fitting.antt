@@ -34,7 +34,7 @@ use Rattle.kinds.proofs.Listed.{of-line, of-listed}
 use Rattle.places.specs.Places.{most_places, places, led_place, first_character, character_place, cell_place}
 use Rattle.places.specs.Runs.{Run, no_run, telling, asking, build_told, characters, named_blind, blind_state, some_leds, all_leds, Meaning, refuses, names, enters, meaning_of, meant, read_as}
 use Rattle.places.specs.Fitting.{end_of, Lies, in_build, in_leds, in_blinds, in_names, in_cells, LiesAs, RunsLie, FitsAs, RunsFit}
-use Rattle.places.proofs.Readers.{AllRead, read_as}
+use Rattle.places.proofs.Readers.{AllRead, read_as_lem}
 
 -- ---- what is known of a message that was read
 refused-read : {n : ℕ} {a : Address} {m : Message} → Refused n ≡ Read a m → ⊥
@@ -203,7 +203,7 @@ accepted_placed kind d m acc = subst (λ (x : Command). PlacedAs kind (meaning_o
         let own : own_type kind d ≡ kind = rw t in
         let n : is_listed kind d.1 ≡ true = rw own at acc.listed in
         let f : fault kind (decode (bytes_of d)) ≡ 0 = rw own at acc.faultless in
-        read_as (HasLeds kind) (Right kind) (bytes_of d) (readers-right kind (bytes_of d) (listed-cells kind d.1 n)) (λ q. none-placed kind) (listed-leds kind d.1 n) f
+        read_as_lem (HasLeds kind) (Right kind) (bytes_of d) (readers-right kind (bytes_of d) (listed-cells kind d.1 n)) (λ q. none-placed kind) (listed-leds kind d.1 n) f
 
 read-placed : (kind identifier remote : ℕ) (bytes : List ℕ) → PlacedAs kind (read_as kind (reading kind identifier remote bytes))
 unfolding read_as meant

@@ -26,5 +26,5 @@ module _ (Q : ℕ → Type 0) (P : Command → Type 0) (d : List ℕ) where
       go true h rest later = ps.0 (subst Q (h refl) q)
       go false h rest later = later
 
-  pub read_as : AllRead Q P d readers → P unlisted → Q (byte 1 d) → P (decode d)
-  read_as ps none q = found readers ps none (byte 1 d) q
+  pub read_as_lem : AllRead Q P d readers → P unlisted → Q (byte 1 d) → P (decode d)
+  read_as_lem ps none q = found readers ps none (byte 1 d) q

@@ -35,8 +35,8 @@ module _ {row : List ℕ} {cells count cell : ℕ} (e : length row ≡ cells) (d
     pub fewer_left : length (rest row next) < length (rest row cell)
     fewer_left = left_less d (omega arith) turn
 
-    pub one_more : Counted row (count + 1) next
-    one_more = count-more d (omega arith) turn
+    pub one_more_lem : Counted row (count + 1) next
+    one_more_lem = count-more d (omega arith) turn
 
     pub left_of : rest row cell ≡ start ∷ rest row next
     left_of = turn_more row cell start next turn (d.found (omega arith))

@@ -8,10 +8,10 @@ use laws::number16;
 use shape::{ADDRESSES, Answer, NO_SLOT, NOT_HEARD, slot_of};
 
 // What a question names may be any number. An address and a location are types of their own, so that neither stands for the other.
-#[derive(Drop)]
+#[derive(Clone, Copy)]
 pub struct AddressAsked(pub u32);
 
-#[derive(Drop)]
+#[derive(Clone, Copy)]
 pub struct LocationAsked(pub u32);
 
 // An address above 255 has no slot.

@@ -10,21 +10,21 @@ use groups::wide;
 use recording::MOST_WORD;
 
 // A number of one group or two, and the offset past it: 0 where there is no such number.
-#[derive(Drop)]
+#[derive(Clone, Copy)]
 struct Short {
     value: u32,
     next: usize,
 }
 
 // A gap of any number of groups, and the offset past it: 0 where there is none.
-#[derive(Drop)]
+#[derive(Clone, Copy)]
 struct Gap {
     value: u64,
     next: usize,
 }
 
 // A record's gap and word, and the offset past them, where the count is: 0 where the quick way does not lead there.
-#[derive(Drop)]
+#[derive(Clone, Copy)]
 pub struct Head {
     pub gap: u64,
     pub word: u32,

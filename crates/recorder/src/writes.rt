@@ -9,7 +9,7 @@ use laws::{MOST_IDENTIFIER, copy_in};
 use recording::{MOST_COUNT, MOST_GAP, MOST_REMOTE};
 
 // How many bytes were written, or the refusal's number.
-#[derive(Drop)]
+#[derive(Clone, Copy)]
 pub enum Put {
     Wrote(usize),
     Refused(u16),

@@ -8,7 +8,7 @@ use numbers::number;
 
 // What reading at an offset finds: a record, whose data are the `len` bytes from `start`, with `next` past it; the end;
 // or a fault, with its refusal number and its offset.
-#[derive(Drop)]
+#[derive(Clone, Copy)]
 pub enum Entry {
     Record {
         gap: u64,

@@ -1,5 +1,5 @@
 -- Laws of replaying a slice.
---     run_on, run-ended, run-broken    a turn of the loop, and its end
+--     run_on_lem, run-ended, run-broken    a turn of the loop, and its end
 --     fuel              more steps than there are bytes left change nothing
 --     stops_inside, little_is_left        where a replay stops
 --     one_or_none       a record adds at most 1
@@ -54,10 +54,10 @@ module _ (hear : Hearing) (s : List ℕ) where
         ∙ fuel (length s) (suc (length s)) _ _ _ next (omega (arith, w.starts, w.ends)) (omega arith)
 
     -- the same, by what hearing answered
-    pub run_on : (gap identifier remote start len next accepted : ℕ) (b' ds : List ℕ) → read_record s at ≡ Record gap identifier remote start len next → ds ≡ take (start + len - start) (drop start s)
+    pub run_on_lem : (gap identifier remote start len next accepted : ℕ) (b' ds : List ℕ) → read_record s at ≡ Record gap identifier remote start len next → ds ≡ take (start + len - start) (drop start s)
         → accepted ≡ one (hear b identifier remote ds).accepted → b' ≡ (hear b identifier remote ds).picture
         → run_on hear s b heard refused at ≡ run_on hear s b' (heard + accepted) (refused + (1 - accepted)) next
-    run_on gap identifier remote start len next accepted b' ds e part answer left =
+    run_on_lem gap identifier remote start len next accepted b' ds e part answer left =
         let n : len ≡ start + len - start = omega arith in
         let same : take len (drop start s) ≡ ds = ap (λ (k : ℕ). take k (drop start s)) n ∙ sym part in
         run_heard gap identifier remote start len next e

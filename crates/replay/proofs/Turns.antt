@@ -108,8 +108,8 @@ record Heard-of (hear : Hearing) (b s : List ℕ) (p : Parts) : Type 0 where
   total : p.total ≡ replayed hear b s
   left : p.left ≡ drop (replayed hear b s).replay.at s
 
-one_more : (hear : Hearing) (b s : List ℕ) (p : Parts) (part : List ℕ) → Heard-of hear b s p → Heard-of hear b (s ++ part) (one_part hear p part)
-one_more hear b s p part h =
+one_more_lem : (hear : Hearing) (b s : List ℕ) (p : Parts) (part : List ℕ) → Heard-of hear b s p → Heard-of hear b (s ++ part) (one_part hear p part)
+one_more_lem hear b s p part h =
     let r : Run = replayed hear b s in
     let next : Run = replayed hear r.picture (drop r.replay.at s ++ part) in
     let same : next_run hear p part ≡ next = λ i. replayed hear (h.total i).picture (h.left i ++ part) in
@@ -128,7 +128,7 @@ all_parts_lem : (hear : Hearing) (b s : List ℕ) (p : Parts) (parts : List (Lis
 unfolding all_parts
 all_parts_lem hear b s p [] h = h.total ∙ ap (replayed hear b) (sym (append-nil s))
 all_parts_lem hear b s p (part ∷ parts) h =
-    all_parts_lem hear b (s ++ part) (one_part hear p part) parts (one_more hear b s p part h) ∙ ap (replayed hear b) (append_assoc s part (joined parts))
+    all_parts_lem hear b (s ++ part) (one_part hear p part) parts (one_more_lem hear b s p part h) ∙ ap (replayed hear b) (append_assoc s part (joined parts))
 
 pub parts_are_whole : PartsAreWhole
 parts_are_whole hear b parts =

@@ -9,7 +9,7 @@ use shape::{Outcome, SIZE};
 
 // The records accepted and refused, the offset of the first byte that is not read as a record, and what is at fault there:
 // the refusal's number, 0 where the slice ends, and its offset.
-#[derive(Drop)]
+#[derive(Clone, Copy)]
 pub struct Replay {
     pub heard: u64,
     pub refused: u64,
@@ -19,7 +19,7 @@ pub struct Replay {
 }
 
 // What hearing a recording answers.
-#[derive(Drop)]
+#[derive(Clone, Copy)]
 pub enum Replayed {
     Heard(Replay),
     Refused(u16),

@@ -10,7 +10,7 @@ use shape::SIZE;
 // What is kept between two parts: the records accepted and refused, the offset of the window's first byte, how many of the window's
 // bytes are not yet heard, and what stopped the hearing: the refusal's number, 0 for the end, and its offset. The counts and the
 // offsets are kept modulo 2^64.
-#[derive(Drop)]
+#[derive(Clone, Copy)]
 pub struct Stream {
     pub heard: u64,
     pub refused: u64,
@@ -21,7 +21,7 @@ pub struct Stream {
 }
 
 // What hearing a part answers.
-#[derive(Drop)]
+#[derive(Clone, Copy)]
 pub enum Part {
     Heard(Stream),
     Refused(u16),

@@ -19,7 +19,7 @@ const FAST: u8 = 3;
 const VERY_FAST: u8 = 4;
 
 // The states of the LEDs, the first one first.
-#[derive(Drop)]
+#[derive(Clone, Copy)]
 struct States(u8, u8, u8, u8, u8, u8, u8, u8);
 
 fn few_lights(bench: &[u8]) -> States
@@ -57,7 +57,7 @@ fn lights(bench: &[u8]) -> States
 }
 
 // What a status frame's on, slow and fast byte show of the LEDs.
-#[derive(Drop)]
+#[derive(Clone, Copy)]
 pub struct Shown(pub u8, pub u8, pub u8);
 
 // The bits of one LED in the three bytes, as one number: 1 in the on byte, 256 in the slow and 65536 in the fast.

@@ -30,17 +30,17 @@ room b b' buffer buffer' m n count h e f =
     let q : given b m buffer ≡ taken_with (done m b) (replies (done m b) m) buffer = rw (← count (done m b), k) in
     (ap taken.Replies (count (done m b)) ∙ ap (λ (o : Outcome). o.answer) (sym q), (e ∙ ap (λ (o : Outcome). o.bench) (sym q), f ∙ rw e (ap (λ (o : Outcome). o.buffer) (sym q))))
 
-pub no_room : (b buffer : List ℕ) (m : Message) (n : ℕ) → ((x : List ℕ) → n ≡ length (replies x m)) → length buffer < 12 * n
+pub no_room_lem : (b buffer : List ℕ) (m : Message) (n : ℕ) → ((x : List ℕ) → n ≡ length (replies x m)) → length buffer < 12 * n
     → Gives (taken.Refused too_short) b buffer (given b m buffer)
 unfolding given
-no_room b buffer m n count h =
+no_room_lem b buffer m n count h =
     let q : given b m buffer ≡ kept (taken.Refused too_short) b buffer = rw (← count (done m b), lt-leb (12 * n) (length buffer) h) in
     (ap (λ (o : Outcome). o.answer) (sym q), (ap (λ (o : Outcome). o.bench) (sym q), ap (λ (o : Outcome). o.buffer) (sym q)))
 
 -- the call itself
-pub too_short : (b s buffer : List ℕ) (i remote : ℕ) → length b < bench_size → Gives (taken.Refused too_short) b buffer (taking b i remote s buffer)
+pub too_short_lem : (b s buffer : List ℕ) (i remote : ℕ) → length b < bench_size → Gives (taken.Refused too_short) b buffer (taking b i remote s buffer)
 unfolding taking
-too_short b s buffer i remote h =
+too_short_lem b s buffer i remote h =
     let q : taking b i remote s buffer ≡ kept (taken.Refused too_short) b buffer = rw (lt-ltb (length b) bench_size h) in
     (ap (λ (o : Outcome). o.answer) (sym q), (ap (λ (o : Outcome). o.bench) (sym q), ap (λ (o : Outcome). o.buffer) (sym q)))
 

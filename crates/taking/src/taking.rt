@@ -11,7 +11,7 @@ use replies::ADDRESS_AT;
 use verdicts::{Verdict, judge};
 
 // The answer to a frame: the number of replies written, or a refusal, a 9 with its byte.
-#[derive(Drop)]
+#[derive(Clone, Copy)]
 pub enum Taken {
     Replies(u16),
     Refused(u16),

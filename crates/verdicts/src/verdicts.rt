@@ -11,7 +11,7 @@ use kinds::VMB8IR;
 use laws::{NOT_LISTED, byte_at};
 
 // The frame is taken, or it is for another address, or it is refused.
-#[derive(Drop)]
+#[derive(Clone, Copy)]
 pub enum Verdict {
     Takes(Message),
     Silent,

@@ -7,7 +7,7 @@ use Rattle.bench.proofs.eights.led_states.Tie as tie
 returns : tie.Need-returns
 returns c =
     let a = c.before.before.args in
-    rw (← bytes_back a.on a.slow a.fast, ← c.before.all_leds_lem.ensures) c.bytes_of.ensures
+    rw (← bytes_back a.on a.slow a.fast, ← c.before.all-leds.ensures) c.bytes_of.ensures
 
 pub led-states-spec : {M : Type 1} → statement M
 led-states-spec = tie.close (tie.spec (λ c κs. search rules) (λ c κs. search rules) returns)

@@ -7,7 +7,7 @@ use Rattle.bench.proofs.sending.put_reply.Tie as tie
 
 returns : tie.Need-returns
 unfolding reply_bytes
-returns c = c.before.before.put-bytes.ensures ∙ rw (c.before.before.before.before.before.written_bytes_lem.ensures, c.before.before.before.before.before.before.write.ensures)
+returns c = c.before.before.put-bytes.ensures ∙ rw (c.before.before.before.before.before.written-bytes.ensures, c.before.before.before.before.before.before.write.ensures)
 
 pub put-reply-spec : {M : Type 1} → statement M
 put-reply-spec =

@@ -1,14 +1,14 @@
 -- `commands::commands::hear_command` meets its contract. Assumes nothing.
 use Rattle.std.proofs.Common.{sym, ◌∙◌, rules}
 use borrow.Author.Tests.{not-true, not-false}
-use Rattle.commands.proofs.Dispatch.{too_short, no_slot, no_module}
+use Rattle.commands.proofs.Dispatch.{too_short_lem, no_slot, no_module}
 use Rattle.commands.proofs.commands.hear_command.Statement.{statement}
 use Rattle.commands.proofs.commands.hear_command.Tie as tie
 
 returns : tie.Need-returns
 returns c =
     let s = c.before.before.before in
-    let h = too_short s.args.picture.now s.args.slot s.args.kind s.args.priority s.args.«data».now c.if1.true in
+    let h = too_short_lem s.args.picture.now s.args.slot s.args.kind s.args.priority s.args.«data».now c.if1.true in
     (h.number, h.bytes_after)
 
 returns-2 : tie.Need-returns-2

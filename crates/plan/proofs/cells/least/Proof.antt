@@ -5,7 +5,7 @@ use lib.ListN.{length}
 use Rattle.plan.specs.Replies.{row_at}
 use Rattle.plan.proofs.CellRow.{row-length}
 use Rattle.reads.proofs.Steps.{rest, Counted, count-first}
-use Rattle.plan.proofs.Turns.{few_reads, more_to_read, fewer_left, one_more, all_read}
+use Rattle.plan.proofs.Turns.{few_reads, more_to_read, fewer_left, one_more_lem, all_read}
 use Rattle.plan.proofs.cells.least.Statement.{statement}
 use Rattle.plan.proofs.cells.least.Tie as tie
 
@@ -28,7 +28,7 @@ loop-less : tie.Need-loop-smaller invariant-loop decreases-loop
 loop-less c = fewer_left (row-length _ _ _) c.before.before.before.loop.invariant c.before.before.loop-test.true c.before.start-for.ensures c.next-unknown2.ensures
 
 loop-again : tie.Need-loop-preserved invariant-loop decreases-loop
-loop-again c = one_more (row-length _ _ _) c.before.before.before.loop.invariant c.before.before.loop-test.true c.before.start-for.ensures c.next-unknown2.ensures
+loop-again c = one_more_lem (row-length _ _ _) c.before.before.before.loop.invariant c.before.before.loop-test.true c.before.start-for.ensures c.next-unknown2.ensures
 
 returns : tie.Need-returns invariant-loop decreases-loop
 returns c = all_read (row-length _ _ _) c.before.loop.invariant c.loop-test.false

@@ -7,7 +7,7 @@ use lib.ListN.{length, length-set}
 use Rattle.plan.specs.Replies.{row_at}
 use Rattle.plan.proofs.CellRow.{row-length}
 use Rattle.reads.proofs.Steps.{rest, Counted, count-first}
-use Rattle.plan.proofs.Turns.{few_reads, more_to_read, fewer_left, one_more, all_read, left_of, Left, all_left, entry_more, entries_all}
+use Rattle.plan.proofs.Turns.{few_reads, more_to_read, fewer_left, one_more_lem, all_read, left_of, Left, all_left, entry_more, entries_all}
 use Rattle.plan.proofs.plans.write_entries.Statement.{statement}
 use Rattle.plan.proofs.plans.write_entries.Tie as tie
 
@@ -37,7 +37,7 @@ loop-again c =
     let h = c.before.before.loop-test.true in
     let p = c.before.start-for.ensures in
     let q = c.next-unknown2.ensures in
-    (one_more (row-length _ _ _) l.loop.invariant.0 h p q, simp length-set l.loop.invariant.1, entry_more _ _ _ _ _ _ _ (left_of (row-length _ _ _) l.loop.invariant.0 h p q) l.loop.invariant.2)
+    (one_more_lem (row-length _ _ _) l.loop.invariant.0 h p q, simp length-set l.loop.invariant.1, entry_more _ _ _ _ _ _ _ (left_of (row-length _ _ _) l.loop.invariant.0 h p q) l.loop.invariant.2)
 
 cast-result : tie.Need-overflow-cast-result invariant-loop decreases-loop
 cast-result c =

@@ -38,7 +38,7 @@ returns-2 c =
     let bytes : AllBytes b = λ i. omega (arith, cells.before.before.shared-slice-known.given i) in
     both_of
     (fill_done _ _ _ _ (ap (λ (k : ℕ). 2 * k) cells.cells_in.ensures) place.before.before.if1.false refl
-    (row_bytes b a.slot (cell_row (kind_in b a.slot)) start _ _ bytes c.before.before.fill_bytes_lem.ensures))
+    (row_bytes b a.slot (cell_row (kind_in b a.slot)) start _ _ bytes c.before.before.fill-bytes.ensures))
 
 pub memory-bytes-in-spec : {M : Type 1} → statement M
 memory-bytes-in-spec =

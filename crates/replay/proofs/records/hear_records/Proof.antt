@@ -3,7 +3,7 @@ use Rattle.std.proofs.Common.{◌≡◌, ◌+◌, ◌-◌, ◌≤◌, length, ta
 use Rattle.recording.specs.Statements.{Whole}
 use Rattle.recording.proofs.Entries.{records_are_whole}
 use Rattle.replay.specs.Replay.{Run, one, heard_by, replayed, run_on}
-use Rattle.replay.proofs.Runs.{run_on, run-ended, run-broken, one_or_none}
+use Rattle.replay.proofs.Runs.{run_on_lem, run-ended, run-broken, one_or_none}
 use Rattle.replay.proofs.records.hear_records.Statement.{statement}
 use Rattle.replay.proofs.records.hear_records.Tie as tie
 
@@ -52,7 +52,7 @@ loop-again c =
       omega (arith, l.invariant.1, w.starts, w.ends),
       omega (arith, refused, l.invariant.2),
       h.auto.0 ∙ l.invariant.3,
-      l.invariant.4 ∙ rw (← heard, refused) (run_on heard_by a.s.now l.picture (l.records - l.refused) l.refused l.at f.0 f.1.0 f.1.1.0 f.1.1.1.0 f.1.1.1.1.0 f.1.1.1.1.1.0
+      l.invariant.4 ∙ rw (← heard, refused) (run_on_lem heard_by a.s.now l.picture (l.records - l.refused) l.refused l.at f.0 f.1.0 f.1.1.0 f.1.1.1.0 f.1.1.1.1.0 f.1.1.1.1.1.0
           (one accepted) h.new.0 _ (sym c.before.before.before.before.before.before.before.before.read-record.ensures ∙ g.1) refl refl h.ensures.1),
     )
 

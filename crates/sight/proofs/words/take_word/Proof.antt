@@ -1,14 +1,14 @@
 -- `sight::words::take_word` meets its contract. Assumes nothing.
 use Rattle.std.proofs.Common.{ap, ◌∙◌, rules}
 use Rattle.sight.specs.Words.{taken_word}
-use Rattle.taking.proofs.Given.{too_short}
+use Rattle.taking.proofs.Given.{too_short_lem}
 use Rattle.sight.proofs.words.take_word.Statement.{statement}
 use Rattle.sight.proofs.words.take_word.Tie as tie
 
 returns : tie.Need-returns
 returns c =
     let a = c.before.before.before.before.before.args in
-    let g = too_short a.bench.now a.«data».now a.replies.now a.identifier a.remote c.before.if1.true in
+    let g = too_short_lem a.bench.now a.«data».now a.replies.now a.identifier a.remote c.before.if1.true in
     (c.refused.ensures ∙ ap taken_word g.0, g.1)
 
 returns-4 : tie.Need-returns-4

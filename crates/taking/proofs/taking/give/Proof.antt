@@ -1,5 +1,5 @@
 -- `taking::taking::give` meets its contract. Assumes nothing.
-use Rattle.taking.proofs.Given.{room, no_room}
+use Rattle.taking.proofs.Given.{room, no_room_lem}
 use borrow.Author.Rules.{rules}
 use Rattle.taking.proofs.taking.give.Statement.{statement}
 use Rattle.taking.proofs.taking.give.Tie as tie
@@ -12,7 +12,7 @@ returns c = let a = c.before.before.before.before.before.before.before.before.be
 returns-2 : tie.Need-returns-2
 returns-2 c = let a = c.before.before.before.before.args in
     let n = c.before.reply-count in
-    no_room a.bench.now a.replies.now a.m n.result n.ensures.0 c.if1.false
+    no_room_lem a.bench.now a.replies.now a.m n.result n.ensures.0 c.if1.false
 
 pub give_spec : {M : Type 1} → statement M
 give_spec =

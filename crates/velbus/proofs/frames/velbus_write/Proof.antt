@@ -12,7 +12,7 @@ returns c = rw (lt-ltb _ _ c.before.if1.true) (c.refused.ensures, refl)
 
 returns-2 : tie.Need-returns-2
 unfolding write_word write_into
-returns-2 c = rw (le-ltb _ _ c.before.before.before.before.before.if1.false, ← c.before.before.before.before.held_in.ensures) (c.before.before.write_held_lem.ensures.0, c.before.before.write_held_lem.ensures.1)
+returns-2 c = rw (le-ltb _ _ c.before.before.before.before.before.if1.false, ← c.before.before.before.before.held_in.ensures) (c.before.before.write-held.ensures.0, c.before.before.write-held.ensures.1)
 
 pub velbus-write-spec : {M : Type 1} → statement M
 velbus-write-spec =
