@@ -36,7 +36,7 @@ use Rattle.groups.proofs.Reading.{different, Fits, number_last, value_at_lem, ba
 use Rattle.numbers.specs.Statements.{is_bad}
 use Rattle.numbers.proofs.Spelling.{more_is_allowed}
 use Rattle.numbers.proofs.Standing.{Stands, stood}
-use Rattle.recording.proofs.Ranges.{in_range, gap_groups_lem, word_groups_lem, count_groups_lem}
+use Rattle.recording.proofs.Ranges.{in_range_lem, gap_groups_lem, word_groups_lem, count_groups_lem}
 
 pub found : (s : List ℕ) (at : ℕ) (rest : ℕ → ℕ → Entry) {read r n : Found} → read ≡ r → read ≡ n → after s at r rest ≡ after s at n rest
 found s at rest e f = ap (λ (n : Found). after s at n rest) (sym e ∙ f)
@@ -120,7 +120,7 @@ Sound s at (Broken refusal offset) = ((refusal ≡ cut_off) × (offset ≡ lengt
 sound : (s : List ℕ) (at : ℕ) → Sound s at (read_record s at)
 sound s at = entry_elim (Sound s at) s at (λ _. tt) (λ _. inl (refl, refl)) (λ p _ h l. inr (refl, h, l))
     (λ gap word count g₁ g₂ g₃ _ _ _ f₁ f₂ f₃ l. record {
-      in_range = in_range gap (word / 2) (word % 2) count (record { gap_fits = f₁.small; identifier-fits = omega (arith, f₂.small); remote_fits = omega arith; few = f₃.small });
+      in_range = in_range_lem gap (word / 2) (word % 2) count (record { gap_fits = f₁.small; identifier-fits = omega (arith, f₂.small); remote_fits = omega arith; few = f₃.small });
       starts = omega arith;
       ends = refl;
       inside = omega arith;

@@ -1,6 +1,6 @@
 -- Laws of a record's numbers.
 --     gap_groups_lem, word_groups_lem, count_groups_lem      how many groups the greatest take
---     ranged, in_range                           what a test of the ranges says
+--     ranged, in_range_lem                        what a test of the ranges says
 -- Assumes nothing.
 use mathlib.Core.Path.{◌≡◌, refl}
 use mathlib.Core.Bool.{true}
@@ -38,7 +38,7 @@ ranged gap identifier remote count e =
     let r = and_both (leb remote most_remote) _ q.1 in
     record { gap_fits = leb-true _ _ p.0; identifier-fits = leb-true _ _ q.0; remote_fits = leb-true _ _ r.0; few = leb-true _ _ r.1 }
 
-pub in_range : (gap identifier remote count : ℕ) → Ranged gap identifier remote count → in_range gap identifier remote count ≡ true
+pub in_range_lem : (gap identifier remote count : ℕ) → Ranged gap identifier remote count → in_range gap identifier remote count ≡ true
 unfolding in_range
-in_range gap identifier remote count w =
+in_range_lem gap identifier remote count w =
     rw (le-leb gap most_gap w.gap_fits, le-leb identifier most_identifier w.identifier-fits, le-leb remote most_remote w.remote_fits, le-leb count most_count w.few)

@@ -76,7 +76,7 @@ module _ (kind : ℕ) (s : List ℕ) (small : AllBytes s) (row : OfRow kind (byt
   k = fault kind (decode s)
 
   first : k ≡ unmet kind s
-  first = linked kind (byte 1 s) s small row.listed row.own_val
+  first = linked kind (byte 1 s) s small row.listed row.own
 
   answered : (a : Address) → a.0 < 256 → Answered kind (byte 1 s) a s
   answered a ha =
@@ -169,14 +169,14 @@ module _ (kind : ℕ) (a : Address) (m : Command) (ha : a.0 < 256) (small : AllB
   own = go (eqb (byte 1 s) type_command) (eqb-true (byte 1 s) type_command)
     where
       go : (b : Bool) → (b ≡ true → byte 1 s ≡ type_command) → cond b (byte 2 s) kind ≡ kind
-      go true q = row.own_val (q refl)
+      go true q = row.own (q refl)
       go false q = refl
 
   fits : type_fits (data_of s) ≡ true
   fits = go (eqb (byte 1 s) type_command) (eqb-true (byte 1 s) type_command)
     where
       go : (b : Bool) → (b ≡ true → byte 1 s ≡ type_command) → (not b || eqb (length s) (row_for (byte 2 s) type_command).0) ≡ true
-      go true q = eq-eqb (length s) (row_for (byte 2 s) type_command).0 (row.sized ∙ rw (row.own_val (q refl), q refl))
+      go true q = eq-eqb (length s) (row_for (byte 2 s) type_command).0 (row.sized ∙ rw (row.own (q refl), q refl))
       go false q = refl
 
   known : among kind module_types ≡ true

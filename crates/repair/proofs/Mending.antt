@@ -98,7 +98,7 @@ stops m n (l ∷ ls) s h z = go (meets s l) refl (rises m n l ls h) (λ h z. sto
     go true q r later z = past r q (later r.later z)
     go false q r later z = here r q
 
-pub stops_in : {n m k : ℕ} {s : List ℕ} {ls : List Line} → Stops n s m ls k → (m < k) × (k ≤ n)
+pub stops_in : {n : ℕ} {s : List ℕ} {m k : ℕ} {ls : List Line} → Stops n s m ls k → (m < k) × (k ≤ n)
 stops_in (here r q) = (r.above, r.within)
 stops_in (past r q p) = let g = stops_in p in (omega (arith, r.above), g.1)
 
@@ -112,7 +112,7 @@ meets-alike l k s t h₀ h e =
     sym (get_or-take k t (l.number - 1) 0 (omega arith)) ∙ ap (byte l.number) e ∙ get_or-take k s (l.number - 1) 0 (omega arith) in
     λ i. l.allows (left i) (this i)
 
-pub no_choice : {n m k : ℕ} {s : List ℕ} {ls : List Line} → Stops n s m ls k → (t : List ℕ) → take k t ≡ take k s → meets_all t ls ≡ false
+pub no_choice : {n : ℕ} {s : List ℕ} {m k : ℕ} {ls : List Line} → Stops n s m ls k → (t : List ℕ) → take k t ≡ take k s → meets_all t ls ≡ false
 no_choice {s} (here {l} r q) t e = rw (meets-alike l l.number s t (omega (arith, r.above)) (omega arith) e ∙ q)
 no_choice (past {l} r q p) t e = rw (no_choice p t e) (and-false (meets t l))
 
@@ -153,7 +153,7 @@ all_chosen m n (◌▸◌ {l} {ls} p ps) w h q =
 
 -- the lines up to the first that s does not meet are met as by s, and the others by what they leave
 mended_met :
-    {n m k : ℕ} {s : List ℕ} {ls : List Line} →
+    {n : ℕ} {s : List ℕ} {m k : ℕ} {ls : List Line} →
     Stops n s m ls k →
     (ps : Each Leaves ls) (w : List ℕ) →
     take (k - 1) w ≡ take (k - 1) s →
@@ -161,7 +161,7 @@ mended_met :
     meets_all w ls ≡ true
 mended_met {n} (here {l} {ls} r q) ps w e h =
     all_chosen (l.number - 1) n ps w (rw (lt-ltb (l.number - 1) l.number (omega (arith, r.above)), le-leb l.number n r.within) r.later) h
-mended_met {n} {k} {s} (past {l} r q p) (o ▸ ps) w e h =
+mended_met {n} {s} {m} {k} (past {l} r q p) (o ▸ ps) w e h =
     let g = stops_in p in
     rw (meets-alike l (k - 1) s w (omega (arith, r.above)) (omega arith) e ∙ q) (mended_met p ps w e (passed (k - 1) n o ps w (omega arith) h))
 

@@ -1,0 +1,76 @@
+-- `codec::encoding::encoded` meets its contract.
+-- Assumes nothing.
+use borrow.Author.Rules.{rules}
+use Rattle.codec.proofs.encoding.encoded.Goals as goal
+
+pub returns-in-TypeLong : goal.returns-in-TypeLong
+returns-in-TypeLong c = rw c.in-TypeLong.is
+
+pub returns-in-TypeShort : goal.returns-in-TypeShort
+returns-in-TypeShort c = rw c.in-TypeShort.is
+
+pub returns-in-Buttons : goal.returns-in-Buttons
+returns-in-Buttons c = rw c.in-Buttons.is
+
+pub returns-in-CellTold : goal.returns-in-CellTold
+returns-in-CellTold c = rw (c.in-CellTold.is, c.located.ensures)
+
+pub returns-in-BlockTold : goal.returns-in-BlockTold
+returns-in-BlockTold c = rw (c.in-BlockTold.is, c.located-in-BlockTold.ensures)
+
+pub returns-in-CellAsked : goal.returns-in-CellAsked
+returns-in-CellAsked c = rw (c.in-CellAsked.is, c.located-in-CellAsked.ensures)
+
+pub returns-in-BlockAsked : goal.returns-in-BlockAsked
+returns-in-BlockAsked c = rw (c.in-BlockAsked.is, c.located-in-BlockAsked.ensures)
+
+pub returns-in-DumpAsked : goal.returns-in-DumpAsked
+returns-in-DumpAsked c = rw c.in-DumpAsked.is
+
+pub returns-in-CellSet : goal.returns-in-CellSet
+returns-in-CellSet c = rw (c.in-CellSet.is, c.located-in-CellSet.ensures)
+
+pub returns-in-BlockSet : goal.returns-in-BlockSet
+returns-in-BlockSet c = rw (c.in-BlockSet.is, c.located-in-BlockSet.ensures)
+
+pub returns-in-Errors : goal.returns-in-Errors
+returns-in-Errors c = rw c.in-Errors.is
+
+pub returns-in-ErrorsAsked : goal.returns-in-ErrorsAsked
+returns-in-ErrorsAsked c = rw c.in-ErrorsAsked.is
+
+pub returns-in-NameOne : goal.returns-in-NameOne
+returns-in-NameOne c = rw c.in-NameOne.is
+
+pub returns-in-NameTwo : goal.returns-in-NameTwo
+returns-in-NameTwo c = rw c.in-NameTwo.is
+
+pub returns-in-NameThree : goal.returns-in-NameThree
+returns-in-NameThree c = rw c.in-NameThree.is
+
+pub returns-in-NameAsked : goal.returns-in-NameAsked
+returns-in-NameAsked c = rw c.in-NameAsked.is
+
+pub returns-in-StatusAsked : goal.returns-in-StatusAsked
+returns-in-StatusAsked c = rw c.in-StatusAsked.is
+
+pub returns-in-InputStatus : goal.returns-in-InputStatus
+returns-in-InputStatus c = rw c.in-InputStatus.is
+
+pub returns-in-LedsAll : goal.returns-in-LedsAll
+returns-in-LedsAll c = rw c.in-LedsAll.is
+
+pub returns-in-Leds : goal.returns-in-Leds
+returns-in-Leds c = rw (c.in-Leds.is, c.glow_command.ensures)
+
+pub returns-in-BlindStatus : goal.returns-in-BlindStatus
+returns-in-BlindStatus c = rw c.in-BlindStatus.is
+
+pub returns-in-BlindStop : goal.returns-in-BlindStop
+returns-in-BlindStop c = rw c.in-BlindStop.is
+
+pub returns-in-BlindUp : goal.returns-in-BlindUp
+returns-in-BlindUp c = rw (c.in-BlindUp.is, c.timed.ensures)
+
+pub returns-in-BlindDown : goal.returns-in-BlindDown
+returns-in-BlindDown c = rw (c.in-BlindDown.is, c.timed-in-BlindDown.ensures)
