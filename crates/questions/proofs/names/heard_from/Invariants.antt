@@ -10,7 +10,7 @@ use native.Mathlib.Omega.{arith}
 use Rattle.questions.proofs.names.heard_from.Given as goal
 
 abbrev pub invariant-loop-i : goal.invariant-loop-i
-invariant-loop-i l = (l.i ≤ name_length) × (l.count ≤ l.i) × (l.count ≡ sum_to (λ l.i. heard_at l.picture (l.at + 2 * l.i)) l.i)
+invariant-loop-i l = (l.i ≤ name_length) × (l.count ≤ l.i) × (l.count ≡ sum_to (λ i. heard_at l.picture (l.at + 2 * i)) l.i)
 
 abbrev pub decreases-loop-i : goal.decreases-loop-i
 decreases-loop-i l = name_length - l.i

@@ -9,7 +9,7 @@ use native.Mathlib.Omega.{arith}
 use Rattle.questions.proofs.names.name_bytes_in.Goals as goal
 
 pub returns-then-out-n : goal.returns-then-out-n
-returns-then-out-n c = both_of (bytes_short _ _ _ _ _ (sym c.has_name_in.ensures ∙ c.if-has_name_in.true) (omega arith) c.if-out-n.true)
+returns-then-out-n c = let both = both_of (bytes_short _ _ _ _ _ (sym c.has_name_in.ensures ∙ c.if-has_name_in.true) (omega arith) c.if-out-n.true) in record { value = both.0; out_after = both.1 }
 
 pub name_at-at-requires : goal.name_at-at-requires
 name_at-at-requires c = (omega arith, omega arith, sym c.has_name_in.ensures ∙ c.if-has_name_in.true)
@@ -19,7 +19,7 @@ returns-then-has_name_in c =
     let a = c.args in
     let bytes : AllBytes a.picture.now = λ i. omega (arith, c.type_inv.picture i) in
     let copied = front_filled a.picture.now c.name_at-at.result a.out.now 32 c.name_at-at.ensures.1 c.if-out-n.false c.copy_few.ensures in
-    both_of (bytes_done _ _ _ _ _ (sym c.has_name_in.ensures ∙ c.if-has_name_in.true) c.name_at-at.ensures.0 c.heard_from.ensures (omega arith) c.if-out-n.false bytes copied)
+    let both = both_of (bytes_done _ _ _ _ _ (sym c.has_name_in.ensures ∙ c.if-has_name_in.true) c.name_at-at.ensures.0 c.heard_from.ensures (omega arith) c.if-out-n.false bytes copied) in record { value = both.0; out_after = both.1 }
 
 pub returns : goal.returns
-returns c = both_of (no_bytes _ _ _ _ _ (sym c.has_name_in.ensures ∙ c.if-has_name_in.false))
+returns c = let both = both_of (no_bytes _ _ _ _ _ (sym c.has_name_in.ensures ∙ c.if-has_name_in.false)) in record { value = both.0; out_after = both.1 }

@@ -11,7 +11,7 @@ use native.Mathlib.Omega.{arith}
 use Rattle.questions.proofs.rows.fill_numbers.Given as goal
 
 abbrev pub invariant-loop-i : goal.invariant-loop-i
-invariant-loop-i l = (l.i ≤ l.n) × (length l.out ≡ length l.initial.out) × (l.out ≡ filled_to (λ l.i. value_at l.picture (l.at + 2 * l.i)) l.initial.out l.i)
+invariant-loop-i l = (l.i ≤ l.n) × (length l.out ≡ length l.initial.out) × (l.out ≡ filled_to (λ i. value_at l.picture (l.at + 2 * i)) l.initial.out l.i)
 
 abbrev pub decreases-loop-i : goal.decreases-loop-i
 decreases-loop-i l = l.n - l.i

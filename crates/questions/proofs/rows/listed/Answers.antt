@@ -13,8 +13,8 @@ returns-then-picture-lt-SIZE c = let short = lt-ltb _ _ c.if-picture-lt-SIZE.tru
 
 pub returns-then-out : goal.returns-then-out
 unfolding listing
-returns-then-out c = let long = le-ltb _ _ c.if-picture-lt-SIZE.false in rw long (both_of (fill-short _ _ _ _ refl c.if-out.true))
+returns-then-out c = let long = le-ltb _ _ c.if-picture-lt-SIZE.false in record { value = rw long (both_of (fill-short _ _ _ _ refl c.if-out.true)).0; out_after = rw long (both_of (fill-short _ _ _ _ refl c.if-out.true)).1 }
 
 pub returns : goal.returns
 unfolding listing
-returns c = let long = le-ltb _ _ c.if-picture-lt-SIZE.false in rw long (both_of (fill_done _ _ _ _ refl c.if-out.false refl c.fill_listed.ensures))
+returns c = let long = le-ltb _ _ c.if-picture-lt-SIZE.false in record { value = rw long (both_of (fill_done _ _ _ _ refl c.if-out.false refl c.fill_listed.ensures)).0; out_after = rw long (both_of (fill_done _ _ _ _ refl c.if-out.false refl c.fill_listed.ensures)).1 }

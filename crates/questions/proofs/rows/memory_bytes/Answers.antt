@@ -7,14 +7,13 @@ use borrow.Author.Rules.{rules}
 use Rattle.questions.proofs.rows.memory_bytes.Goals as goal
 
 pub returns-then-picture-lt-SIZE : goal.returns-then-picture-lt-SIZE
-returns-then-picture-lt-SIZE c = both_of (short-refused _ _ memory_bytes _ c.if-picture-lt-SIZE.true)
+returns-then-picture-lt-SIZE c = let both = both_of (short-refused _ _ memory_bytes _ c.if-picture-lt-SIZE.true) in record { value = both.0; out_after = both.1 }
 
 pub returns-then-slot-lt-ROOM : goal.returns-then-slot-lt-ROOM
 unfolding reply_as
 returns-then-slot-lt-ROOM c =
-    let done = c.memory_bytes_in.ensures in
     let listed = both_of (listed-replies _ _ memory_bytes _ c.if-picture-lt-SIZE.false c.slot_asked-slot.ensures c.if-slot-lt-ROOM.true) in
-    record { value = done.0 ∙ listed.0; out_after = done.1 ∙ listed.1 }
+    record { value = c.memory_bytes_in.ensures.value ∙ listed.0; out_after = c.memory_bytes_in.ensures.out_after ∙ listed.1 }
 
 pub returns-else-slot-lt-ROOM : goal.returns-else-slot-lt-ROOM
-returns-else-slot-lt-ROOM c = both_of (unlisted-refused _ _ memory_bytes _ c.if-picture-lt-SIZE.false c.slot_asked-slot.ensures c.if-slot-lt-ROOM.false)
+returns-else-slot-lt-ROOM c = let both = both_of (unlisted-refused _ _ memory_bytes _ c.if-picture-lt-SIZE.false c.slot_asked-slot.ensures c.if-slot-lt-ROOM.false) in record { value = both.0; out_after = both.1 }

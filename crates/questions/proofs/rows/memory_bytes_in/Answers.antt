@@ -19,7 +19,7 @@ overflow_mul-n c =
 
 pub returns-then-out-n : goal.returns-then-out-n
 unfolding bytes_fill
-returns-then-out-n c = both_of (fill-short _ _ _ _ (ap (λ (k : ℕ). 2 * k) c.cells_in-n.ensures) c.if-out-n.true)
+returns-then-out-n c = let both = both_of (fill-short _ _ _ _ (ap (λ (k : ℕ). 2 * k) c.cells_in-n.ensures) c.if-out-n.true) in record { value = both.0; out_after = both.1 }
 
 pub fill_bytes-requires : goal.fill_bytes-requires
 fill_bytes-requires c =
@@ -33,6 +33,6 @@ returns c =
     let b = a.picture.now in
     let start = rw c.first_cell.ensures at c.place_at-at.ensures in
     let bytes : AllBytes b = λ i. omega (arith, c.type_inv.picture i) in
-    both_of
+    let both = both_of
     (fill_done _ _ _ _ (ap (λ (k : ℕ). 2 * k) c.cells_in-n.ensures) c.if-out-n.false refl
-    (row_bytes b a.slot (cell_row (kind_in b a.slot)) start _ _ bytes c.fill_bytes.ensures))
+    (row_bytes b a.slot (cell_row (kind_in b a.slot)) start _ _ bytes c.fill_bytes.ensures)) in record { value = both.0; out_after = both.1 }

@@ -12,7 +12,7 @@ use Rattle.questions.proofs.rows.memory_in.Goals as goal
 
 pub returns-then-out-n : goal.returns-then-out-n
 unfolding numbers_fill
-returns-then-out-n c = both_of (fill-short _ _ _ _ c.cells_in-n.ensures c.if-out-n.true)
+returns-then-out-n c = let both = both_of (fill-short _ _ _ _ c.cells_in-n.ensures c.if-out-n.true) in record { value = both.0; out_after = both.1 }
 
 pub fill_numbers-requires : goal.fill_numbers-requires
 fill_numbers-requires c =
@@ -25,6 +25,6 @@ returns c =
     let a = c.args in
     let b = a.picture.now in
     let start = rw c.first_cell.ensures at c.place_at-at.ensures in
-    both_of
+    let both = both_of
     (fill_done _ _ _ _ c.cells_in-n.ensures c.if-out-n.false refl
-    (row_numbers b a.slot (cell_row (kind_in b a.slot)) start _ _ c.fill_numbers.ensures))
+    (row_numbers b a.slot (cell_row (kind_in b a.slot)) start _ _ c.fill_numbers.ensures)) in record { value = both.0; out_after = both.1 }

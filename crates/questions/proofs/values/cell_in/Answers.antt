@@ -1,7 +1,7 @@
 -- `questions::values::cell_in` meets its contract. Assumes nothing.
 use Prim.Native.Nat.{ℕ, ◌+◌, ◌<◌}
 use mathlib.Core.Path.{◌≡◌, sym, ap, ◌∙◌}
-use mathlib.Core.Bool.{true}
+use mathlib.Core.Bool.{Bool, true}
 use lib.Dec.{ltb}
 use borrow.Author.Tests.{ltb-true}
 use borrow.Author.Rules.{rules}
@@ -15,23 +15,19 @@ use Rattle.questions.proofs.Extents.{few-cells}
 use Rattle.questions.proofs.Celling.{cell_there, no_cell_there}
 use Rattle.questions.proofs.values.cell_in.Goals as goal
 
--- where the type has the cell
-has : (n : tie.Then1) → let a = n.before.before.before.before.args in ltb a.location (extent_of (kind_in a.picture.now a.slot)).cells ≡ true
-has n =
-    let a = n.before.before.before.before.args in
-    ap (λ (k : ℕ). ltb a.location (extent_of k).cells) (sym n.before.before.kind-in.ensures) ∙ sym n.before.has-cell.ensures ∙ n.if1.true
+-- the test of a cell, at the type that was looked up
+has : (kind location : ℕ) {found : ℕ} {yes : Bool} → found ≡ kind → yes ≡ ltb location (extent_of found).cells → yes ≡ true → ltb location (extent_of kind).cells ≡ true
+has kind location k h y = ap (λ (t : ℕ). ltb location (extent_of t).cells) (sym k) ∙ sym h ∙ y
 
-small : (n : tie.Then1) → n.before.before.before.before.args.location < 256
-small n =
-    let a = n.before.before.before.before.args in
-    let kind = kind_in a.picture.now a.slot in
-    omega (arith, few-cells kind, ltb-true a.location (extent_of kind).cells (has n))
+-- a type with such a cell has it among its first 256
+small : (kind location : ℕ) {found : ℕ} {yes : Bool} → found ≡ kind → yes ≡ ltb location (extent_of found).cells → yes ≡ true → location < 256
+small kind location k h y = omega (arith, few-cells kind, ltb-true location (extent_of kind).cells (has kind location k h y))
 
 pub overflow_add-first_cell : goal.overflow_add-first_cell
-overflow_add-first_cell c = omega (arith, small c, c.first_cell.ensures)
+overflow_add-first_cell c = omega (arith, small (kind_in c.args.picture.now c.args.slot) c.args.location c.kind_in.ensures c.has_cell.ensures c.if-has_cell.true, c.first_cell.ensures)
 
 pub answer_at-requires : goal.answer_at-requires
-answer_at-requires c = omega (arith, small c, c.place_at.ensures, c.first_cell.ensures)
+answer_at-requires c = omega (arith, small (kind_in c.args.picture.now c.args.slot) c.args.location c.kind_in.ensures c.has_cell.ensures c.if-has_cell.true, c.place_at.ensures, c.first_cell.ensures)
 
 pub returns-then-has_cell : goal.returns-then-has_cell
 returns-then-has_cell c =
@@ -39,7 +35,7 @@ returns-then-has_cell c =
     let b = a.picture.now in
     let first = c.first_cell in
     let place : first.result + a.location ≡ cell_place (kind_in b a.slot) a.location = omega (arith, first.ensures) in
-    c.answer_at.ensures ∙ ap (answer_at b) (c.place_at.ensures ∙ ap (place_at a.slot) place) ∙ cell_there b a.slot (kind_in b a.slot) a.location (has c)
+    c.answer_at.ensures ∙ ap (answer_at b) (c.place_at.ensures ∙ ap (place_at a.slot) place) ∙ cell_there b a.slot (kind_in b a.slot) a.location (has (kind_in b a.slot) a.location c.kind_in.ensures c.has_cell.ensures c.if-has_cell.true)
 
 pub returns-else-has_cell : goal.returns-else-has_cell
 returns-else-has_cell c =

@@ -5,4 +5,4 @@ use Rattle.steering.proofs.steps.step_on.Goals as goal
 
 pub returns : goal.returns
 unfolding stepped
-returns c = rw (← c.byte_at-next.ensures, ← c.keep_more.ensures, ← c.wrapping_add_u8.ensures) c.put_at.ensures
+returns c = rw (← c.byte_at-next.ensures, ← c.keep_more.ensures, ← c.wrapping_add_u8.ensures.value) c.put_at.ensures

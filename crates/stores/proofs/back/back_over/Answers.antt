@@ -13,7 +13,7 @@ returns c =
     rw (
       last,
       ← c.byte_at.ensures,
-      ← c.wrapping_add_u8-last.ensures,
+      ← c.wrapping_add_u8-last.ensures.value,
       ← c.undo.ensures,
       ← c.kept_of.ensures,
       ← c.one_fewer-fewer.ensures,

@@ -1,0 +1,27 @@
+-- `quick::quick::quick_gap` meets its contract. Assumes nothing.
+use Prim.Native.Nat.{◌+◌, ◌-◌, ◌*◌}
+use mathlib.Core.Path.{refl, ap, ◌∙◌}
+use native.Mathlib.Omega.{arith}
+use borrow.Author.Rules.{rules}
+use Rattle.groups.specs.declared.scan.Found.TheVariants.{Value}
+use Rattle.numbers.proofs.Standing.{stands_last, stands-more, stood}
+use Rattle.recording.specs.Limits.{most_gap}
+use Rattle.recording.proofs.Entries.{gap_taken}
+use Rattle.quick.proofs.quick.quick_gap.Goals as goal
+
+pub returns-then-first-lt128 : goal.returns-then-first-lt128
+returns-then-first-lt128 c some =
+    let a = c.args in
+    let x = c.wide-first in
+    let s = a.s.now in
+    ap (Value x.result) (omega arith) ∙ stood s a.at most_gap x.result 1 (omega arith) (omega arith) (stands_last s a.at x.result (omega arith) x.ensures.0 (omega arith))
+
+pub returns-then-second-lt128 : goal.returns-then-second-lt128
+returns-then-second-lt128 c =
+    let a = c.args in
+    let x = c.wide-first in
+    let y = c.wide-second in
+    let s = a.s.now in
+    gap_taken s a.at (x.result - 128 + 128 * y.result) 2 y.result (omega arith) c.shortest.ensures
+    (λ last. stands-more s a.at x.result (omega arith) x.ensures.0 (a.at + 1) y.result 1 _ 2 refl refl refl (omega arith) last
+    (stands_last s (a.at + 1) y.result (omega arith) y.ensures.0 (omega arith)))
