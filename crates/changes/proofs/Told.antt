@@ -2,7 +2,7 @@
 --     written_also, written_four places written in two goes, and four one after the other
 --     has_room                   what the guard shows
 --     left_alone, told_all       a run behind its guard: nothing is done, and from what the calls did
---     told_in                    a run that lies in a record is told
+--     told_in_lem                a run that lies in a record is told
 -- Assumes nothing.
 use Rattle.std.proofs.Common.{◌≡◌, ℕ, zero, suc, ◌+◌, ◌*◌, ◌<◌, ◌≤◌, Bool, true, false, not, List, [], ◌∷◌, length, take, drop, ◌∙◌, arith}
 use lib.Seq.{take-nil}
@@ -47,9 +47,9 @@ pub written_four :
 written_four b o row p q r t = written_also b o row 3 1 (written_also b o row 2 1 (written_also b o row 1 1 p q) r) t
 
 -- ---- behind the guard there is room for all the places
-pub has_room : (bytes s start n : ℕ) {lies : Bool} → lies ≡ lies_in bytes s start n → not lies ≡ false → {o m : ℕ} → o ≡ place_at s start → m ≡ bytes → o + 2 * n ≤ m
+pub has_room : (bytes s start n : ℕ) {lies : Bool} → lies ≡ lies_in bytes s start n → lies ≡ true → {o m : ℕ} → o ≡ place_at s start → m ≡ bytes → o + 2 * n ≤ m
 has_room bytes s start n {lies} guard h e k =
-    let w = within bytes s start n guard (not-false lies h) in
+    let w = within bytes s start n guard h in
     omega (arith, w.long, w.listed, w.ends)
 
 -- ---- a run
@@ -58,18 +58,18 @@ module _ (b : List ℕ) (s : ℕ) (r : Run) where
   unfolding told_bytes
   told_by p e q t = t ∙ rw (← p, ← e, ← q)
 
-  pub told_in : size ≤ length b → s < room → r.start + length r.says ≤ places → told_in b s r ≡ told_bytes b s r
+  pub told_in_lem : size ≤ length b → s < room → r.start + length r.says ≤ places → told_in b s r ≡ told_bytes b s r
   unfolding told_in
-  told_in l m e = rw (lies_true (length b) s r.start (length r.says) l m e)
+  told_in_lem l m e = rw (lies_true (length b) s r.start (length r.says) l m e)
 
   module _ {lies : Bool} (guard : lies ≡ lies_in (length b) s r.start (length r.says)) where
-    pub left_alone : not lies ≡ true → b ≡ told_in b s r
+    pub left_alone : lies ≡ false → b ≡ told_in b s r
     unfolding told_in
-    left_alone h = rw (← guard, not-true lies h)
+    left_alone h = rw (← guard, h)
 
-    pub told_all : not lies ≡ false → 0 < length r.says → {o : ℕ} {x y z : List ℕ} → x ≡ saved_in b s r.start → o ≡ place_at s r.start → y ≡ written x o r.says → z ≡ stepped y
+    pub told_all : lies ≡ true → 0 < length r.says → {o : ℕ} {x y z : List ℕ} → x ≡ saved_in b s r.start → o ≡ place_at s r.start → y ≡ written x o r.says → z ≡ stepped y
         → z ≡ told_in b s r
     unfolding told_in
     told_all h some p e q t =
-        let w = within (length b) s r.start (length r.says) guard (not-false lies h) in
-        rw (← guard, not-false lies h) (told_by (p ∙ saved_in_lem b s r.start w.long w.listed (omega (arith, w.ends))) e q t)
+        let w = within (length b) s r.start (length r.says) guard h in
+        rw (← guard, h) (told_by (p ∙ saved_in_lem b s r.start w.long w.listed (omega (arith, w.ends))) e q t)

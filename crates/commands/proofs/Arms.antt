@@ -85,12 +85,12 @@ module _ {has : ℕ → Bool} {k n p : ℕ} (arm : Arm has k n p) (b : List ℕ)
         let row = row_of has k n p arm.rows kind ready.module_type here in
         rw (le-ltb (length b) size ready.whole, lt-ltb slot room ready.within, first, arm.no_type, row.0, row.1, arm.some_bytes)
 
-    pub misfitted : {t : Bool} {r : ℕ} {b' : List ℕ} → t ≡ eqb (length s) n && eqb priority p → not t ≡ true → r ≡ unless (eqb (length s) n) wrong_length wrong_priority → b' ≡ b → Heard b slot kind priority s r b'
-    misfitted {t} f e q w = refusing b slot kind priority s (q ∙ one_fails (eqb (length s) n) (eqb priority p) field (sym f ∙ not-true t e) ∙ number) (λ z. some_number (eqb (length s) n) (sym q ∙ z)) w
+    pub misfitted : {t : Bool} {r : ℕ} {b' : List ℕ} → t ≡ eqb (length s) n && eqb priority p → t ≡ false → r ≡ unless (eqb (length s) n) wrong_length wrong_priority → b' ≡ b → Heard b slot kind priority s r b'
+    misfitted {t} f e q w = refusing b slot kind priority s (q ∙ one_fails (eqb (length s) n) (eqb priority p) field (sym f ∙ e) ∙ number) (λ z. some_number (eqb (length s) n) (sym q ∙ z)) w
 
-    module _ {t : Bool} (f : t ≡ eqb (length s) n && eqb priority p) (e : not t ≡ false) where
+    module _ {t : Bool} (f : t ≡ eqb (length s) n && eqb priority p) (e : t ≡ true) where
       field-number : field ≡ command_number b slot kind priority s
-      field-number = let g = and_both (eqb (length s) n) (eqb priority p) (sym f ∙ not-false t e) in rw (g.0, g.1) at number
+      field-number = let g = and_both (eqb (length s) n) (eqb priority p) (sym f ∙ e) in rw (g.0, g.1) at number
 
       pub at_fault : {r : ℕ} {b' : List ℕ} → r ≡ field → (r ≡ 0 → ⊥) → b' ≡ b → Heard b slot kind priority s r b'
       at_fault e h q = refusing b slot kind priority s (e ∙ field-number) h q

@@ -16,7 +16,7 @@ use Rattle.history.proofs.InMemory.{in_memory}
 use Rattle.places.proofs.Fitting.{runs_lie, runs_fit}
 use Rattle.places.proofs.Apart.{apart, inside}
 use Rattle.history.proofs.Effects.{effects, hears_command, hears_entry, hears_exchange}
-use Rattle.layouts.proofs.Held.{laid_is_held}
+use Rattle.layouts.proofs.Holding.{laid_is_held}
 use Rattle.velbus.proofs.Again.{read_then_written_again, laid_is_read_back}
 use Rattle.demands.specs.Order.{answers}
 use Rattle.demands.specs.Demand1.{verdict_of_writing}

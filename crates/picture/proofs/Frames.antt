@@ -39,11 +39,11 @@ Heard n x r = (n ≡ number_of r) × (x ≡ r.buffer)
 
 -- the first tests, by the code's one answer
 module _ (identifier remote : ℕ) (s : List ℕ) {t : Bool} (e : t ≡ eqb (frame_refusal no_type identifier remote (length s)) 0) where
-  pub form_passed : not t ≡ false → frame_refusal no_type identifier remote (length s) ≡ 0
-  form_passed h = eqb-true (frame_refusal no_type identifier remote (length s)) 0 (sym e ∙ not-false t h)
+  pub form_passed : t ≡ true → frame_refusal no_type identifier remote (length s) ≡ 0
+  form_passed h = eqb-true (frame_refusal no_type identifier remote (length s)) 0 (sym e ∙ h)
 
-  form_failed : not t ≡ true → frame_refusal no_type identifier remote (length s) ≡ 0 → ⊥
-  form_failed h = eqb-false (frame_refusal no_type identifier remote (length s)) 0 (sym e ∙ not-true t h)
+  form_failed : t ≡ false → frame_refusal no_type identifier remote (length s) ≡ 0 → ⊥
+  form_failed h = eqb-false (frame_refusal no_type identifier remote (length s)) 0 (sym e ∙ h)
 
 module _ (b : List ℕ) (slot identifier remote : ℕ) (s : List ℕ) (kind : ℕ) (k : kind ≡ kind_in b slot) where
   abbrev heard_at : Result
@@ -56,7 +56,7 @@ module _ (b : List ℕ) (slot identifier remote : ℕ) (s : List ℕ) (kind : �
   bad_refused h = as_refused bad_type (rw (handed_bad kind identifier remote s h)) (λ z. omega arith)
 
   -- ---- the frame's own tests, a type request, and a command, whichever type is handed in
-  pub form_refused : {t : Bool} → t ≡ eqb (frame_refusal no_type identifier remote (length s)) 0 → not t ≡ true
+  pub form_refused : {t : Bool} → t ≡ eqb (frame_refusal no_type identifier remote (length s)) 0 → t ≡ false
       → (n : ℕ) → n ≡ frame_refusal no_type identifier remote (length s) → Heard (unless (among kind handed_types) bad_type n) b heard_at
   form_refused f h n e = go (among kind handed_types) refl
     where

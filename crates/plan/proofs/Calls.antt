@@ -233,8 +233,8 @@ right_bytes row starts = rw (eq-eqb (length (in_bytes starts) % 2) 0 (omega (ari
 abbrev over : List ℕ → Reply → Reply
 over out r = answering r.answer out
 
-pub right_in_bytes : RightInBytes
-right_in_bytes b a starts =
+pub right_in_bytes_lem : RightInBytes
+right_in_bytes_lem b a starts =
     ap (λ (r : Reply). r.answer)
     (at_module_lem b a (λ s. answering (Value (yes_no (right_in_bytes (memory_in b s) (in_bytes starts)))) (in_bytes starts)) (λ s. answering (Value (yes_no (right_plan (memory_in b s) starts))) starts) (in_bytes starts) starts
     (over (in_bytes starts)) (λ n. refl) (λ s. ap (λ (t : Bool). answering (Value (yes_no t)) (in_bytes starts)) (right_bytes (memory_in b s) starts)))

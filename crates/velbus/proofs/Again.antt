@@ -40,7 +40,7 @@ use Rattle.velbus.specs.Frames.{held_word, held_into, read_into, write_word, wri
 use Rattle.layouts.specs.Statements.{Fitting}
 use Rattle.velbus.specs.Statements.{ReadThenWrittenAgain, LaidIsReadBack}
 use Rattle.layouts.specs.declared.parts.Held.TheVariants.{Holds}
-use Rattle.layouts.proofs.Held.{laid_is_held}
+use Rattle.layouts.proofs.Holding.{laid_is_held}
 
 -- What is written has a number, and a location and seconds that fit their fields.
 

@@ -13,7 +13,7 @@ returns-then-c-lt128 c =
     let x = c.wide-c in
     let s = a.s.now in
     gap_taken s a.at (a.a - 128 + 128 * (a.b - 128) + 16384 * x.result) 3 x.result (omega arith) c.shortest.ensures
-    (stands_three s a.at a.a a.b (omega arith) (omega arith) (omega arith) (omega arith) (omega arith) x.result x.ensures.0 (omega arith))
+    (stands_three s a.at a.a a.b (omega arith) (omega arith) (omega arith) (omega arith) (omega arith) x.result x.ensures.value (omega arith))
 
 pub returns-then-d-lt128 : goal.returns-then-d-lt128
 returns-then-d-lt128 c =
@@ -22,7 +22,7 @@ returns-then-d-lt128 c =
     let y = c.wide-d in
     let s = a.s.now in
     gap_taken s a.at (a.a - 128 + 128 * (a.b - 128) + 16384 * (x.result - 128) + 2097152 * y.result) 4 y.result (omega arith) c.shortest-then-d-lt128.ensures
-    (stands_four s a.at a.a a.b (omega arith) (omega arith) (omega arith) (omega arith) (omega arith) x.result y.result x.ensures.0 y.ensures.0 (omega arith) (omega arith))
+    (stands_four s a.at a.a a.b (omega arith) (omega arith) (omega arith) (omega arith) (omega arith) x.result y.result x.ensures.value y.ensures.value (omega arith) (omega arith))
 
 pub returns-then-e-lt128 : goal.returns-then-e-lt128
 returns-then-e-lt128 c =
@@ -32,7 +32,7 @@ returns-then-e-lt128 c =
     let z = c.wide-e in
     let s = a.s.now in
     gap_taken s a.at (a.a - 128 + 128 * (a.b - 128) + 16384 * (x.result - 128) + 2097152 * (y.result - 128) + 268435456 * z.result) 5 z.result (omega arith) c.shortest-then-e-lt128.ensures
-    (stands_five s a.at a.a a.b (omega arith) (omega arith) (omega arith) (omega arith) (omega arith) x.result y.result z.result x.ensures.0 y.ensures.0 z.ensures.0
+    (stands_five s a.at a.a a.b (omega arith) (omega arith) (omega arith) (omega arith) (omega arith) x.result y.result z.result x.ensures.value y.ensures.value z.ensures.value
     (omega arith) (omega arith) (omega arith))
 
 pub returns : goal.returns

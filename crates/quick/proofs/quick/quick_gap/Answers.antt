@@ -14,7 +14,7 @@ returns-then-first-lt128 c some =
     let a = c.args in
     let x = c.wide-first in
     let s = a.s.now in
-    ap (Value x.result) (omega arith) ∙ stood s a.at most_gap x.result 1 (omega arith) (omega arith) (stands_last s a.at x.result (omega arith) x.ensures.0 (omega arith))
+    ap (Value x.result) (omega arith) ∙ stood s a.at most_gap x.result 1 (omega arith) (omega arith) (stands_last s a.at x.result (omega arith) x.ensures.value (omega arith))
 
 pub returns-then-second-lt128 : goal.returns-then-second-lt128
 returns-then-second-lt128 c =
@@ -23,5 +23,5 @@ returns-then-second-lt128 c =
     let y = c.wide-second in
     let s = a.s.now in
     gap_taken s a.at (x.result - 128 + 128 * y.result) 2 y.result (omega arith) c.shortest.ensures
-    (λ last. stands-more s a.at x.result (omega arith) x.ensures.0 (a.at + 1) y.result 1 _ 2 refl refl refl (omega arith) last
-    (stands_last s (a.at + 1) y.result (omega arith) y.ensures.0 (omega arith)))
+    (λ last. stands-more s a.at x.result (omega arith) x.ensures.value (a.at + 1) y.result 1 _ 2 refl refl refl (omega arith) last
+    (stands_last s (a.at + 1) y.result (omega arith) y.ensures.value (omega arith)))

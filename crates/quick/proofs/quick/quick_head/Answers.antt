@@ -17,7 +17,7 @@ short_number-word-requires c =
     let a = c.args in
     let g = c.quick_gap-gap.result in
     let fits = fits_at a.s.now a.at most_gap gap_groups gap_groups_lem g.value (g.next - a.at) (c.quick_gap-gap.ensures (omega arith)) refl in
-    (omega arith, omega arith)
+    record { at_in_bounds = omega arith; le_most = omega arith }
 
 pub returns : goal.returns
 returns c =
@@ -25,7 +25,8 @@ returns c =
     let g = c.quick_gap-gap.result in
     let gap = c.quick_gap-gap.ensures (omega arith) in
     let w = c.short_number-word in
-    let r = w.result in (
-      λ some. head-room a.s.now a.at g.value r.value g.next r.next gap (w.ensures some) (omega arith),
-      λ some. headed a.s.now a.at g.value r.value g.next r.next gap (w.ensures some) (omega arith),
-    )
+    let r = w.result in
+    record {
+      most_count_in_bounds = λ some. head-room a.s.now a.at g.value r.value g.next r.next gap (w.ensures some) (omega arith);
+      next_value = λ some. headed a.s.now a.at g.value r.value g.next r.next gap (w.ensures some) (omega arith);
+    }

@@ -4,7 +4,7 @@ use native.Mathlib.Omega.{arith}
 use borrow.Author.Tests.{le-leb, lt-leb}
 use Rattle.laws.specs.Limits.{most_identifier}
 use Rattle.recording.specs.Limits.{most_gap, most_remote, most_count, in_range}
-use Rattle.recording.proofs.Ranges.{in_range}
+use Rattle.recording.proofs.Ranges.{in_range_lem}
 use Rattle.recorder.proofs.writes.in_range.Goals as goal
 
 pub returns-then-gap-gt-MOST_GAP : goal.returns-then-gap-gt-MOST_GAP
@@ -30,4 +30,4 @@ returns-then-count-gt-MOST_COUNT c =
 pub returns : goal.returns
 returns c =
     let a = c.args in
-    sym (in_range a.gap a.identifier a.remote a.count (record { gap_fits = omega arith; identifier-fits = omega arith; remote_fits = omega arith; few = omega arith }))
+    sym (in_range_lem a.gap a.identifier a.remote a.count (record { gap_fits = omega arith; identifier-fits = omega arith; remote_fits = omega arith; few = omega arith }))

@@ -1,0 +1,8 @@
+-- `plan::plans::put_start` meets its contract. Assumes nothing.
+use borrow.Author.Rules.{rules}
+use native.Mathlib.Omega.{arith}
+use lib.ListN.{length-set}
+use Rattle.plan.proofs.plans.put_start.Goals as goal
+
+pub bounds-out-count-2 : goal.bounds-out-count-2
+bounds-out-count-2 c = simp length-set (omega arith)
