@@ -1,0 +1,12 @@
+-- `bench::deeds::set_block` meets its contract. Assumes nothing.
+use Rattle.bench.proofs.Storing.{told-stored}
+use mathlib.Core.List.{[], ◌∷◌}
+use Prim.Native.Nat.{◌+◌}
+use mathlib.Core.Path.{◌∙◌}
+use borrow.Author.Rules.{rules}
+use Rattle.bench.proofs.deeds.set_block.Goals as goal
+
+pub returns : goal.returns
+returns c =
+    let a = c.args in
+    c.put_bytes.ensures ∙ rw c.cell_place.ensures (told-stored (a.a ∷ a.b ∷ a.c ∷ a.d ∷ []) a.bench.now (256 + a.l.0))

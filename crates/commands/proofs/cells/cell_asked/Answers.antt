@@ -1,0 +1,28 @@
+-- `commands::cells::cell_asked` meets its contract. Assumes nothing.
+use Rattle.std.proofs.Common.{refl, rules}
+use Rattle.kinds.specs.Types.{low, last_cell}
+use Rattle.frame.specs.Messages.{location_in}
+use Rattle.places.specs.Runs.{meaning_of}
+use Rattle.commands.proofs.Rows.{every_module}
+use Rattle.commands.proofs.Arms.{Arm, misfitted, at_fault, passed, near, far}
+use Rattle.commands.proofs.cells.cell_asked.Goals as goal
+
+arm : Arm every_module 0xFD 3 low
+arm = record { some_bytes = refl; no_type = refl; rows = refl }
+
+pub returns-then-not-formed : goal.returns-then-not-formed
+returns-then-not-formed c = misfitted arm c.args.picture.now c.args.slot c.args.kind c.args.priority c.args.«data».now c.requires.0 c.requires.1 refl c.formed.ensures c.if-not-formed.true c.misfit.ensures refl
+
+pub returns-then-l-last_of : goal.returns-then-l-last_of
+returns-then-l-last_of c =
+    let l = c.location_in-l.ensures in
+    let e = rw (c.wide32.ensures, l) at c.cell_fault.ensures in
+    let h = rw (l, c.last_of.ensures) at c.if-l-last_of.true in
+    at_fault arm c.args.picture.now c.args.slot c.args.kind c.args.priority c.args.«data».now c.requires.0 c.requires.1 refl c.formed.ensures c.if-not-formed.false e (far (last_cell c.args.kind) (location_in c.args.«data».now) h e) refl
+
+pub returns : goal.returns
+unfolding meaning_of
+returns c =
+    let l = c.location_in-l.ensures in
+    let h = rw (l, c.last_of.ensures) at c.if-l-last_of.false in
+    passed arm c.args.picture.now c.args.slot c.args.kind c.args.priority c.args.«data».now c.requires.0 c.requires.1 refl c.formed.ensures c.if-not-formed.false refl refl (near (last_cell c.args.kind) (location_in c.args.«data».now) h) c.pass.ensures
