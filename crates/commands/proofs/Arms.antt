@@ -23,7 +23,7 @@ use Rattle.places.specs.Runs.{Run, no_run, run_in, meaning_of}
 use Rattle.shape.specs.Limits.{room}
 use Rattle.shape.specs.Layout.{size}
 use Rattle.changes.specs.Telling.{is_empty, naming, told_in, passed_in}
-use Rattle.changes.proofs.Told.{told_in}
+use Rattle.changes.proofs.Told.{told_in_lem}
 use Rattle.commands.specs.Commands.{named_by, command_number, command_bytes}
 use Rattle.commands.specs.Arms.{Ready, Heard}
 use Rattle.commands.proofs.Rows.{Rowed, row_of, row-none}
@@ -99,7 +99,7 @@ module _ {has : ℕ → Bool} {k n p : ℕ} (arm : Arm has k n p) (b : List ℕ)
           (r : Run) → r ≡ run_here → {v : ℕ} → v ≡ field → v ≡ 0 → is_empty r.says ≡ false → r.start + length r.says ≤ places → {b' : List ℕ} → b' ≡ told_in b slot r
           → Heard b slot kind priority s 0 b'
       unfolding naming
-      told r is v z some fits q = hearing b slot kind priority s (sym z ∙ v ∙ field-number) refl (rw (run_here_lem, ← is, lt-ltb slot room ready.within, some, ← told_in b slot r ready.whole ready.within fits) q)
+      told r is v z some fits q = hearing b slot kind priority s (sym z ∙ v ∙ field-number) refl (rw (run_here_lem, ← is, lt-ltb slot room ready.within, some, ← told_in_lem b slot r ready.whole ready.within fits) q)
 
       pub passed : no_run ≡ run_here → {v : ℕ} → v ≡ field → v ≡ 0 → {b' : List ℕ} → b' ≡ passed_in b → Heard b slot kind priority s 0 b'
       unfolding naming passed_in

@@ -59,16 +59,16 @@ module _ (b : List ℕ) (slot kind priority : ℕ) (s : List ℕ) where
 
     module _ (within : slot < room) where
       -- of a number that is no type's, and of a command with no arm
-      not_listed : (eqb (byte 1 s) type_command ≡ false → is_listed kind (byte 1 s) ≡ false) → Heard b slot kind priority s not_listed b
+      not_listed_lem : (eqb (byte 1 s) type_command ≡ false → is_listed kind (byte 1 s) ≡ false) → Heard b slot kind priority s not_listed b
       unfolding command_number
-      not_listed h = refusing b slot kind priority s (rw (le-ltb (length b) size whole, lt-ltb slot room within) (go (eqb (byte 1 s) type_command) h)) (λ z. omega arith) refl
+      not_listed_lem h = refusing b slot kind priority s (rw (le-ltb (length b) size whole, lt-ltb slot room within) (go (eqb (byte 1 s) type_command) h)) (λ z. omega arith) refl
         where
           go : (t : Bool) → (t ≡ false → is_listed kind (byte 1 s) ≡ false) → not_listed ≡ unless (not t) not_listed (row_refusal kind priority (data_of s) (command_of s))
           go true h = refl
           go false h = rw (h refl)
 
       pub no_module : among kind module_types ≡ false → Heard b slot kind priority s not_listed b
-      no_module m = not_listed (λ z. go (is_listed kind (byte 1 s)) (listed_module kind (byte 1 s)))
+      no_module m = not_listed_lem (λ z. go (is_listed kind (byte 1 s)) (listed_module kind (byte 1 s)))
         where
           go : (t : Bool) → (t ≡ true → among kind module_types ≡ true) → t ≡ false
           go false h = refl
@@ -76,4 +76,4 @@ module _ (b : List ℕ) (slot kind priority : ℕ) (s : List ℕ) where
 
       pub none-listed :
           {c : ℕ} → c ≡ byte 1 s → among c single ≡ false → (0xF0 ≤ c → c ≤ 0xF1 → ⊥) → (0xF5 ≤ c → c ≤ 0xF9 → ⊥) → Heard b slot kind priority s not_listed b
-      none-listed {c} e x p q = not_listed (λ z. unlisted kind (byte 1 s) (rw (← e) x) (rw (← e) (not_row c p q)) z)
+      none-listed {c} e x p q = not_listed_lem (λ z. unlisted kind (byte 1 s) (rw (← e) x) (rw (← e) (not_row c p q)) z)
