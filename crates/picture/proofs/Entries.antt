@@ -26,7 +26,7 @@ use Rattle.shape.specs.Head.{no_slot, modules_of}
 use Rattle.changes.specs.Telling.{naming, told_in}
 use Rattle.modules.specs.Records.{exchanged_bytes, entered_bytes, enter_number, entered_in, exchanged_in}
 use Rattle.stores.proofs.Within.{lies_true}
-use Rattle.changes.proofs.Told.{told_in}
+use Rattle.changes.proofs.Told.{told_in_lem}
 use Rattle.picture.specs.Hearing.{entering, hearing_as, number_of}
 use Rattle.picture.proofs.Meant.{type_told_lem}
 
@@ -45,7 +45,7 @@ module _ (b : List ℕ) (slot identifier kind : ℕ) (s : List ℕ) (entered : �
     unfolding entering naming
     again_same same t =
         rw (enters_as, lt-ltb slot room listed, eq-eqb kind entered (sym same))
-        (t ∙ told_in b slot (build_in s) long listed (omega arith))
+        (t ∙ told_in_lem b slot (build_in s) long listed (omega arith))
 
     pub again_other : (entered ≡ kind → ⊥) → (a : Address) → a ≡ address_of identifier → x ≡ exchanged_in b slot a.0 entered (build_in s)
         → x ≡ (hearing_as b slot (bus_address identifier) kind (meaning_of kind (type_frame s))).buffer
