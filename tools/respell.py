@@ -153,6 +153,14 @@ def part_lemmas(path, text, fall_together):
     return IN_ANTT.sub(one, text) if here else text
 
 
+def part_types(path, text):
+    """What the standing frames tell of an address's type: the question on a type has the shorter name."""
+    here = path.endswith("history/specs/Standing.antt") or re.search(r"^use Rattle\.history\.specs\.Standing\.\{[^}]*\btype_of\b", text, re.M)
+    if not here:
+        return text
+    return IN_ANTT.sub(lambda m: "standing_type" if m.group() == "type_of" and text[m.start() - 1:m.start()] != "." else m.group(), text)
+
+
 def respell(path, text, new, fields):
     def one(m):
         t = m.group()
@@ -181,7 +189,7 @@ def main():
         if path.endswith(".edit"):
             for old, now in IN_EDITS:
                 changed = re.sub(old, now, changed)
-        changed = respell(path, part_lemmas(path, changed, fall_together), new, fields)
+        changed = respell(path, part_lemmas(path, part_types(path, changed), fall_together), new, fields)
         if changed != text:
             with open(path, "w", encoding="utf-8") as f:
                 f.write(changed)

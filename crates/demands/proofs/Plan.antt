@@ -26,7 +26,7 @@ use Rattle.shape.specs.Head.{short, kind_in}
 use Rattle.places.specs.Runs.{Saying, tells, Run, said, telling, meaning_of, meant}
 use Rattle.questions.specs.Question.{type_of, cell, Reply, value, refusing}
 use Rattle.questions.specs.Replies.{slot_asked, reply_as, reply_in, reply}
-use Rattle.history.specs.Standing.{Frame, address, Known, unknown, told, after, sense, type_of, latest, Event, hear, deepest, standing}
+use Rattle.history.specs.Standing.{Frame, address, Known, unknown, told, after, sense, standing_type, latest, Event, hear, deepest, standing}
 use Rattle.history.specs.Asked.{answer_of, told_if, told_as, told_reply}
 use Rattle.history.specs.Demand3.{doing, run_bytes, runs_bytes}
 use Rattle.history.specs.Effects.{HeardAs}
@@ -41,7 +41,7 @@ use Rattle.reads.proofs.Steps.{inside}
 use Rattle.reads.proofs.Fewest.{plan_is_right, plan_fewest, count_is_least, nothing_unknown, quarter_is_enough}
 use Rattle.reads.proofs.Starts.{plan_rises, plan_as_asked, only_plan}
 use Rattle.reads.proofs.Judged.{judged_right}
-use Rattle.plan.proofs.Calls.{row_is_memory, unknown_is_not_heard, row_of_type, written_is_plan, plan_in_bytes, odd_byte_is_no_entry, right_in_bytes, odd_byte_is_no_plan}
+use Rattle.plan.proofs.Calls.{row_is_memory, unknown_is_not_heard, row_of_type, written_is_plan, plan_in_bytes, odd_byte_is_no_entry, right_in_bytes_lem, odd_byte_is_no_plan}
 use Rattle.demands.specs.Plan.{ReplyTo, RepliesTo, hearing, AllAccepted, AllTold, Pays, PlanPays, Plan}
 
 -- an answer that is a value is no other
@@ -76,20 +76,20 @@ module _ (b : List ℕ) (whole : size ≤ length b) (d : ℕ) (allowed : d ≤ d
   abbrev cell_after : List Event → ℕ → Answer
   cell_after h c = (reply (run_bytes b d h) a (cell c) []).answer
 
-  type_by : (h : List Event) (t : Option ℕ) → type_of (standing d h) a ≡ t → (told_reply t (latest (standing d h) a) type_of []).answer ≡ Value kind → type_of (standing d h) a ≡ some kind
+  type_by : (h : List Event) (t : Option ℕ) → standing_type (standing d h) a ≡ t → (told_reply t (latest (standing d h) a) type_of []).answer ≡ Value kind → standing_type (standing d h) a ≡ some kind
   unfolding told_reply told_as
   type_by h none e q = refused_not type_not_known kind q
   type_by h (some k) e q = let same : k ≡ kind = cc in e ∙ ap some same
 
-  type_known : (h : List Event) → (reply (run_bytes b d h) a type_of []).answer ≡ Value kind → type_of (standing d h) a ≡ some kind
-  type_known h e = type_by h (type_of (standing d h) a) refl (sym (ap (λ (r : Reply). r.answer) ((demand_3 b whole d allowed h).each a type_of [])) ∙ e)
+  type_known : (h : List Event) → (reply (run_bytes b d h) a type_of []).answer ≡ Value kind → standing_type (standing d h) a ≡ some kind
+  type_known h e = type_by h (standing_type (standing d h) a) refl (sym (ap (λ (r : Reply). r.answer) ((demand_3 b whole d allowed h).each a type_of [])) ∙ e)
 
   cell-by : (t : Option ℕ) (known : ℕ → Known) (c : ℕ) → t ≡ some kind → c < cells_of kind → (told_reply t known (cell c) []).answer ≡ answer_of (known (cell_place kind c))
   unfolding told_reply told_as extent_of
   cell-by t known c e h = rw (e, lt-ltb c (cells_of kind) h)
 
   -- ---- one reply heard
-  module _ (h : List Event) (here : type_of (standing d h) a ≡ some kind) (start : ℕ) (f : Frame) (r : ReplyTo kind a start f) where
+  module _ (h : List Event) (here : standing_type (standing d h) a ≡ some kind) (start : ℕ) (f : Frame) (r : ReplyTo kind a start f) where
     command : Command
     command = BlockTold (record { 0 = start }) r.first r.second r.third r.fourth
 
@@ -98,12 +98,12 @@ module _ (b : List ℕ) (whole : size ≤ length b) (d : ℕ) (allowed : d ≤ d
 
     heard : HeardAs b d h f (some kind) (λ p. after (said run p) (latest (standing d h) (address f) p))
     unfolding sense meaning_of command run
-    heard = hears_command b whole d allowed h f kind command run (ap (type_of (standing d h)) r.at ∙ here) r.read refl
+    heard = hears_command b whole d allowed h f kind command run (ap (standing_type (standing d h)) r.at ∙ here) r.read refl
 
     accepted : (doing (hear f) (run_bytes b d h)).outcome ≡ Done
     accepted = heard.answer
 
-    still-listed : type_of (standing d (hear f ∷ h)) a ≡ some kind
+    still-listed : standing_type (standing d (hear f ∷ h)) a ≡ some kind
     unfolding run_bytes told_reply told_as
     still-listed =
         type_known (hear f ∷ h)
@@ -120,7 +120,7 @@ module _ (b : List ℕ) (whole : size ≤ length b) (d : ℕ) (allowed : d ≤ d
     cell-before : (c : ℕ) → c < cells_of kind → cell_after h c ≡ answer_of (latest (standing d h) a (cell_place kind c))
     cell-before c l =
         ap (λ (x : Reply). x.answer) ((demand_3 b whole d allowed h).each a (cell c) [])
-        ∙ cell-by (type_of (standing d h) a) (latest (standing d h) a) c here l
+        ∙ cell-by (standing_type (standing d h) a) (latest (standing d h) a) c here l
 
     values : List ℕ
     values = r.first ∷ r.second ∷ r.third ∷ r.fourth ∷ []
@@ -162,14 +162,14 @@ module _ (b : List ℕ) (whole : size ≤ length b) (d : ℕ) (allowed : d ≤ d
         go (no m) (no n) = inl (x.0, sym (stays c l (inr (omega arith))) ∙ x.1)
 
   -- ---- a reply for each start heard, in order
-  all_accepted : (starts : List ℕ) (fs : List Frame) (h : List Event) → type_of (standing d h) a ≡ some kind → RepliesTo kind a starts fs → AllAccepted (run_bytes b d h) fs
+  all_accepted : (starts : List ℕ) (fs : List Frame) (h : List Event) → standing_type (standing d h) a ≡ some kind → RepliesTo kind a starts fs → AllAccepted (run_bytes b d h) fs
   unfolding run_bytes
   all_accepted [] [] h here rs = tt
   all_accepted [] (f ∷ fs) h here rs = absurd rs
   all_accepted (s ∷ ss) [] h here rs = absurd rs
   all_accepted (s ∷ ss) (f ∷ fs) h here rs = (accepted h here s f rs.0, all_accepted ss fs (hear f ∷ h) (still-listed h here s f rs.0) rs.1)
 
-  told-after : (starts : List ℕ) (fs : List Frame) (h : List Event) → type_of (standing d h) a ≡ some kind → RepliesTo kind a starts fs
+  told-after : (starts : List ℕ) (fs : List Frame) (h : List Event) → standing_type (standing d h) a ≡ some kind → RepliesTo kind a starts fs
       → (c : ℕ) → c < cells_of kind → Told a (run_bytes b d h) c ⊎ ReadBy starts c → Told a (hearing (run_bytes b d h) fs) c
   unfolding run_bytes runs_bytes
   told-after [] [] h here rs c l x = ⊎_elim (λ t. t) (λ n. absurd n) x
@@ -179,7 +179,7 @@ module _ (b : List ℕ) (whole : size ≤ length b) (d : ℕ) (allowed : d ≤ d
       told-after ss fs (hear f ∷ h) (still-listed h here s f rs.0) rs.1 c l
       (⊎_elim (λ t. inl (told-then h here s f rs.0 c l (inl t))) (λ y. ⊎_elim (λ z. inl (told-then h here s f rs.0 c l (inr z))) (λ z. inr z) y) x)
 
-  after-told : (starts : List ℕ) (fs : List Frame) (h : List Event) → type_of (standing d h) a ≡ some kind → RepliesTo kind a starts fs
+  after-told : (starts : List ℕ) (fs : List Frame) (h : List Event) → standing_type (standing d h) a ≡ some kind → RepliesTo kind a starts fs
       → (c : ℕ) → c < cells_of kind → Told a (hearing (run_bytes b d h) fs) c → Told a (run_bytes b d h) c ⊎ ReadBy starts c
   unfolding run_bytes runs_bytes
   after-told [] [] h here rs c l x = inl x
@@ -197,7 +197,7 @@ module _ (b : List ℕ) (whole : size ≤ length b) (d : ℕ) (allowed : d ≤ d
     there : Listed (run_bytes b d h) a kind
     there = listed (run_bytes b d h) a kind asked
 
-    here : type_of (standing d h) a ≡ some kind
+    here : standing_type (standing d h) a ≡ some kind
     here = type_known h asked
 
     row-cells : length row ≡ cells_of kind
@@ -207,7 +207,7 @@ module _ (b : List ℕ) (whole : size ≤ length b) (d : ℕ) (allowed : d ≤ d
     told-or-not : (c : ℕ) → c < cells_of kind → Told a (run_bytes b d h) c ⊎ Unknown row c
     told-or-not c l =
         go (latest (standing d h) a (cell_place kind c))
-        (ap (λ (x : Reply). x.answer) ((demand_3 b whole d allowed h).each a (cell c) []) ∙ cell-by (type_of (standing d h) a) (latest (standing d h) a) c here l)
+        (ap (λ (x : Reply). x.answer) ((demand_3 b whole d allowed h).each a (cell c) []) ∙ cell-by (standing_type (standing d h) a) (latest (standing d h) a) c here l)
       where
         go : (k : Known) → cell_after h c ≡ answer_of k → Told a (run_bytes b d h) c ⊎ Unknown row c
         go unknown e = inr ((unknown_is_not_heard (run_bytes b d h) bytes there.long a there.slot c (omega (arith, row-cells)) []).1 e)
@@ -268,7 +268,7 @@ plan =
       written_is_plan = written_is_plan;
       plan_in_bytes = plan_in_bytes;
       odd_byte_is_no_entry = odd_byte_is_no_entry;
-      right_in_bytes = right_in_bytes;
+      right_in_bytes = right_in_bytes_lem;
       odd_byte_is_no_plan = odd_byte_is_no_plan;
       plan_pays = plan_pays;
     }

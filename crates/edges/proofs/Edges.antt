@@ -7,7 +7,7 @@ use Rattle.fields.specs.Fields.{buttons_allowed, asked_allowed}
 use Rattle.judging.specs.Reading.{reading, command_read, request_read}
 use Rattle.places.specs.Places.{first_character, cell_asked, led_asked, blind_asked, has_name}
 use Rattle.places.specs.Runs.{said_from, glow_by, meaning_of, meant, read_as}
-use Rattle.history.specs.Standing.{sense, meaning, typed, type_of, after, gave, latest, more, listed, judged, judgement, outcome_of, stands, but_latest, struck, counted, standing, kept, granted, answered}
+use Rattle.history.specs.Standing.{sense, meaning, typed, standing_type, after, gave, latest, more, listed, judged, judgement, outcome_of, stands, but_latest, struck, counted, standing, kept, granted, answered}
 use Rattle.history.specs.Asked.{count_told, over_row, told_as, told_reply}
 use Rattle.history.specs.Cases.{example}
 use Rattle.history.proofs.Demand3.{demand_3}
@@ -16,7 +16,7 @@ use Rattle.recording.specs.Record.{read_within}
 use Rattle.edges.specs.Edges.{EdgesHold, EdgesOnBytes}
 
 pub edges_hold : EdgesHold
-unfolding tab line_of rows_of extent_of position_in name_of blind_of buttons_allowed asked_allowed reading command_read request_read first_character cell_asked led_asked blind_asked has_name said_from glow_by meaning_of meant read_as sense meaning typed type_of after gave latest more listed judged judgement outcome_of stands but_latest struck counted standing kept granted answered count_told over_row told_as told_reply number_bytes read_number read_within
+unfolding tab line_of rows_of extent_of position_in name_of blind_of buttons_allowed asked_allowed reading command_read request_read first_character cell_asked led_asked blind_asked has_name said_from glow_by meaning_of meant read_as sense meaning typed standing_type after gave latest more listed judged judgement outcome_of stands but_latest struck counted standing kept granted answered count_told over_row told_as told_reply number_bytes read_number read_within
 edges_hold = refl
 
 pub edges_on_bytes : EdgesOnBytes

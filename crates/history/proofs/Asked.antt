@@ -21,7 +21,7 @@ use Rattle.places.proofs.Fitting.{extents_small, first_small}
 use Rattle.questions.specs.Question.{Question, type_of, build_year, build_week, cell, led, blind, name_row, name_bytes, memory_row, memory_bytes, Reply, answering}
 use Rattle.questions.specs.Fills.{value_at, heard_at, row_number, low_first as byte_of, numbers_fill, bytes_fill, sum_to, heard_in}
 use Rattle.questions.specs.Replies.{slot_asked, place_reply, reply_as, reply_in, reply, listed_if, listing}
-use Rattle.history.specs.Standing.{Frame, Known, unknown, told, type_of, latest}
+use Rattle.history.specs.Standing.{Frame, Known, unknown, told, standing_type, latest}
 use Rattle.history.specs.Asked.{answer_of, number_of, heard_of, one_to, told_if, over_row, each_of, low_first, count_told, name_size, told_as, told_reply, yes_if, told_listed}
 use Rattle.history.specs.Demand3.{Tells}
 use Rattle.history.specs.Machine.{Module, find, slot}
@@ -158,7 +158,7 @@ record Seen (b : List ℕ) (S : List Frame) (a s kind : ℕ) : Type 0 where
   there : s < room
   slot_is : slot_of b a ≡ s
   kind_is : kind_in b s ≡ kind
-  type_is : type_of S a ≡ some kind
+  type_is : standing_type S a ≡ some kind
   cells_are : (p : ℕ) → p < places → cell_at b (place_at s p) ≡ some (latest S a p)
 
 module _ (b : List ℕ) (S : List Frame) (good : Good b) (shown : Shows (state_of b).modules S) where
@@ -179,7 +179,7 @@ module _ (b : List ℕ) (S : List Frame) (good : Good b) (shown : Shows (state_o
         cells_are = λ p l. place_held (slot (state_of b).modules a) p m at.holds l ∙ fits.holds p l;
       }
 
-  type_none : (a : ℕ) → find (state_of b).modules a ≡ none → type_of S a ≡ none
+  type_none : (a : ℕ) → find (state_of b).modules a ≡ none → standing_type S a ≡ none
   type_none a e = rw e at (shown.each a)
 
   -- the slot of an address that is asked for
@@ -195,11 +195,11 @@ module _ (b : List ℕ) (S : List Frame) (good : Good b) (shown : Shows (state_o
   unfolding slot_asked
   asked_some {a} at = rw (lt-ltb a addresses at.small) at.slot_is
 
-  pub tells : (a : ℕ) → Tells b a (type_of S a) (latest S a)
+  pub tells : (a : ℕ) → Tells b a (standing_type S a) (latest S a)
   unfolding reply reply_in told_reply
   tells a q out = rw (enough b good) (go (find (state_of b).modules a) refl)
     where
-      go : (y : Option Module) → find (state_of b).modules a ≡ y → reply_in b (slot_asked b a) q out ≡ told_reply (type_of S a) (latest S a) q out
+      go : (y : Option Module) → find (state_of b).modules a ≡ y → reply_in b (slot_asked b a) q out ≡ told_reply (standing_type S a) (latest S a) q out
       go none e = rw (asked-none a e, type_none a e)
       go (some m) e =
           let at = seen a m e in
@@ -208,8 +208,8 @@ module _ (b : List ℕ) (S : List Frame) (good : Good b) (shown : Shows (state_o
 
   pub listed-told : (out : List ℕ) → listing b out ≡ told_listed S out
   unfolding listing told_listed
-  listed-told out = rw (enough b good) (filling-over 0 (listed_if b) (λ a. yes_if (type_of S a)) addresses out (λ a l. go a (find (state_of b).modules a) refl))
+  listed-told out = rw (enough b good) (filling-over 0 (listed_if b) (λ a. yes_if (standing_type S a)) addresses out (λ a l. go a (find (state_of b).modules a) refl))
     where
-      go : (a : ℕ) (y : Option Module) → find (state_of b).modules a ≡ y → listed_if b a ≡ yes_if (type_of S a)
+      go : (a : ℕ) (y : Option Module) → find (state_of b).modules a ≡ y → listed_if b a ≡ yes_if (standing_type S a)
       go a none e = rw (slot-none b a e, type_none a e)
       go a (some m) e = let at = seen a m e in rw (at.slot_is, lt-ltb (slot (state_of b).modules a) room at.there, at.type_is)

@@ -15,7 +15,7 @@ use Rattle.shape.specs.declared.answers.Outcome.TheVariants.{Done}
 use Rattle.shape.specs.Layout.{size}
 use Rattle.places.specs.Runs.{Run, Meaning, refuses, names, enters, meaning_of, meant, read_as}
 use Rattle.shape.specs.Limits.{room}
-use Rattle.history.specs.Standing.{handed, sense, Frame, address, meaning, Known, typed, type_of, gave, latest, more, listed, Judgement, refused, accepted, exchanged, judged, judgement, outcome_of, Event, hear, back, deepest, stands, but_latest, struck, counted, standing, kept, answered}
+use Rattle.history.specs.Standing.{handed, sense, Frame, address, meaning, Known, typed, standing_type, gave, latest, more, listed, Judgement, refused, accepted, exchanged, judged, judgement, outcome_of, Event, hear, back, deepest, stands, but_latest, struck, counted, standing, kept, answered}
 use Rattle.history.specs.Demand3.{doing, run_bytes, Tells, Answers}
 use Rattle.history.specs.Effects.{Reads, HearsCommand, HearsEntry, HearsExchange, Alike, Own, Effect, Effects, SameAnswers, BackOver, Sixteenth, RoomAgain, RoomUsedAgain}
 use Rattle.history.proofs.Shows.{other_type, other_latest, here_type, here_latest}
@@ -58,11 +58,11 @@ module _ (b : List ℕ) (whole : size ≤ length b) (d : ℕ) (allowed : d ≤ d
   unfolding answered
   answer_is = before_it.next (hear f)
 
-  told-after : outcome_of (judgement S f) ≡ Done → (a : ℕ) → Tells (doing (hear f) (run_bytes b d h)).buffer a (type_of (f ∷ S) a) (latest (f ∷ S) a)
+  told-after : outcome_of (judgement S f) ≡ Done → (a : ℕ) → Tells (doing (hear f) (run_bytes b d h)).buffer a (standing_type (f ∷ S) a) (latest (f ∷ S) a)
   told-after e a = rw (← (it_stands e), ← bytes_after) (after_it.each a)
 
-  own-by : outcome_of (judgement S f) ≡ Done → (m : Meaning) → meaning (type_of S (address f)) f ≡ m
-      → Own (doing (hear f) (run_bytes b d h)).buffer (address f) (type_of S (address f)) (latest S (address f)) m
+  own-by : outcome_of (judgement S f) ≡ Done → (m : Meaning) → meaning (standing_type S (address f)) f ≡ m
+      → Own (doing (hear f) (run_bytes b d h)).buffer (address f) (standing_type S (address f)) (latest S (address f)) m
   unfolding typed gave
   own-by e (refuses n) q = retold _ (address f) (here_type f S (refuses n) q) (λ p. here_latest f S (refuses n) p q) (told-after e (address f))
   own-by e (names r) q = retold _ (address f) (here_type f S (names r) q) (λ p. here_latest f S (names r) p q) (told-after e (address f))
@@ -74,8 +74,8 @@ module _ (b : List ℕ) (whole : size ≤ length b) (d : ℕ) (allowed : d ≤ d
         elsewhere =
             λ a other.
             let n : eqb (address f) a ≡ false = ne_eqb (address f) a (λ q. other (sym q)) in
-            alike (run_bytes b d h) _ a (type_of S a) (latest S a) (before_it.each a) (retold _ a (other_type f S a n) (λ p. other_latest f S a p n) (told-after e a));
-        own = own-by e (meaning (type_of S (address f)) f) refl;
+            alike (run_bytes b d h) _ a (standing_type S a) (latest S a) (before_it.each a) (retold _ a (other_type f S a n) (λ p. other_latest f S a p n) (told-after e a));
+        own = own-by e (meaning (standing_type S (address f)) f) refl;
       }
 
   -- ---- a step back over it
@@ -100,7 +100,7 @@ module _ (b : List ℕ) (whole : size ≤ length b) (d : ℕ) (allowed : d ≤ d
       let c = demand_3 b whole d allowed (back ∷ hear f ∷ h) in
       record {
         addresses_listed = λ out. before_it.addresses_listed out ∙ sym (rw (stands_again deep e) at (c.addresses_listed out));
-        each = λ a. alike (run_bytes b d h) (run_bytes b d (back ∷ hear f ∷ h)) a (type_of S a) (latest S a) (before_it.each a) (rw (stands_again deep e) at (c.each a));
+        each = λ a. alike (run_bytes b d h) (run_bytes b d (back ∷ hear f ∷ h)) a (standing_type S a) (latest S a) (before_it.each a) (rw (stands_again deep e) at (c.each a));
         next = λ g. before_it.next (hear g) ∙ sym (rw (stands_again deep e) at (c.next (hear g)));
       }
 
@@ -115,7 +115,7 @@ reads_means : (t : Option ℕ) (f : Frame) (m : Command) → Reads (handed t) f 
 unfolding meaning read_as meant
 reads_means t f m e = rw e
 
-module _ (b : List ℕ) (whole : size ≤ length b) (d : ℕ) (allowed : d ≤ deepest) (h : List Event) (f : Frame) (t : Option ℕ) (m : Meaning) (t-is : type_of (standing d h) (address f) ≡ t) (m-is : meaning t f ≡ m) where
+module _ (b : List ℕ) (whole : size ≤ length b) (d : ℕ) (allowed : d ≤ deepest) (h : List Event) (f : Frame) (t : Option ℕ) (m : Meaning) (t-is : standing_type (standing d h) (address f) ≡ t) (m-is : meaning t f ≡ m) where
   judged_as : judgement (standing d h) f ≡ judged t (listed (standing d h)) m
   unfolding judgement
   judged_as = rw (t-is, m-is)
@@ -151,7 +151,7 @@ hears_exchange b whole d allowed h f kind m k r t e enter other =
 
 -- ---- the sixteenth and the seventeenth module
 module _ (b : List ℕ) (whole : size ≤ length b) (d : ℕ) (allowed : d ≤ deepest) (h : List Event) (f g : Frame) (k l : ℕ) (r q : Run) (deep : 0 < d) (s : Sixteenth (standing d h) f g k l r q) where
-  judged-new : (T : List Frame) (x : Frame) (n : ℕ) (p : Run) → type_of T (address x) ≡ none → meaning none x ≡ enters n p
+  judged-new : (T : List Frame) (x : Frame) (n : ℕ) (p : Run) → standing_type T (address x) ≡ none → meaning none x ≡ enters n p
       → judgement T x ≡ cond (ltb (listed T) room) accepted (refused no_room)
   unfolding judgement judged
   judged-new T x n p e m = rw (e, m)

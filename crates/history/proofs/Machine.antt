@@ -16,7 +16,7 @@ use Rattle.places.specs.Places.{most_places, places}
 use Rattle.places.specs.Runs.{Run, Saying, Meaning, refuses, names, enters, read_as}
 use Rattle.places.specs.Fitting.{FitsAs}
 use Rattle.places.proofs.Fitting.{runs_fit}
-use Rattle.history.specs.Standing.{Frame, address, handed, sense, meaning, type_of, latest, listed, Judgement, refused, accepted, judged, judgement, Event, hear, back, stands, but_latest, struck, counted, standing, kept, granted, answered}
+use Rattle.history.specs.Standing.{Frame, address, handed, sense, meaning, standing_type, latest, listed, Judgement, refused, accepted, judged, judgement, Event, hear, back, stands, but_latest, struck, counted, standing, kept, granted, answered}
 use Rattle.history.specs.Machine.{Module, Undo, same, entered, wrote, State, Step, find, slot, olds, told_by, restored, new, nobody, undo, logged, kept_as, told_in, hears, backs, step, run}
 use Rattle.history.specs.Refinement.{Found, AllFound, Sound}
 use Rattle.history.specs.Demand3.{MachineAgrees}
@@ -87,8 +87,8 @@ module _ (d : ℕ) (s : State) (f : Frame) (S : List Frame) (k : ℕ) (ready : R
   shown : Shows s.modules S
   shown = ready_shows s.log s.modules S ready
 
-  heard : (x : Option Module) (r : Meaning) → find s.modules (address f) ≡ x → At x S (address f) → meaning (type_of S (address f)) f ≡ r → FitsAs r
-      → Met d (hears d x (address f) r s) (judged (type_of S (address f)) (listed S) r) f S k
+  heard : (x : Option Module) (r : Meaning) → find s.modules (address f) ≡ x → At x S (address f) → meaning (standing_type S (address f)) f ≡ r → FitsAs r
+      → Met d (hears d x (address f) r s) (judged (standing_type S (address f)) (listed S) r) f S k
   unfolding hears judged kept_as stands counted undo told_in
   heard x (refuses n) e h m fit = record { ready = ready; count = count; answers = refl }
   heard none (names r) e h m fit = met_logged d s.log s.modules s.modules f S same k refl (shows_nobody f S s.modules r e m shown) ready count
@@ -113,7 +113,7 @@ module _ (d : ℕ) (s : State) (f : Frame) (S : List Frame) (k : ℕ) (ready : R
   unfolding step judgement
   hear_met =
       rw (kind_at (find s.modules (address f)) S (address f) (shown.each (address f)))
-      (heard (find s.modules (address f)) (meaning (type_of S (address f)) f) refl (shown.each (address f)) refl (meaning-fits (type_of S (address f)) f))
+      (heard (find s.modules (address f)) (meaning (standing_type S (address f)) f) refl (shown.each (address f)) refl (meaning-fits (standing_type S (address f)) f))
 
 -- What is so after a run of events.
 record Held (d : ℕ) (h : List Event) : Type 0 where
@@ -127,7 +127,7 @@ held_back ms [] S k r c = rw (← c) (r, refl, refl)
 held_back ms (u ∷ log) S k r c = rw (← c) (r.1, refl, refl)
 
 fresh_shows : Shows [] []
-unfolding find listed type_of
+unfolding find listed standing_type
 fresh_shows = record { count = refl; each = λ a. refl }
 
 held : (d : ℕ) (h : List Event) → Held d h

@@ -10,7 +10,7 @@ use lib.Dec.{eqb}
 use borrow.Author.Tests.{eqb-true, eqb-false, ne_eqb}
 use Rattle.shape.specs.Limits.{addresses}
 use Rattle.places.specs.Runs.{Meaning, refuses, names, enters}
-use Rattle.history.specs.Standing.{Frame, address, meaning, typed, type_of, more, listed, Event}
+use Rattle.history.specs.Standing.{Frame, address, meaning, typed, standing_type, more, listed, Event}
 use Rattle.history.specs.Asked.{yes_if}
 use Rattle.history.specs.Demand3.{listed_below, ListedIs, run_bytes, runs_bytes, InOrder}
 use Rattle.history.proofs.Shows.{other_type, here_type}
@@ -25,7 +25,7 @@ unfolding run_bytes
 in_order b d es = runs_from b d es []
 
 none_below : (n : ℕ) → listed_below n [] ≡ 0
-unfolding listed_below type_of
+unfolding listed_below standing_type
 none_below zero = refl
 none_below (suc n) = rw (none_below n)
 
@@ -49,16 +49,16 @@ module _ (f : Frame) (S : List Frame) where
   above zero h = refl
   above (suc n) h = rw (other_type f S n (ne_eqb (address f) n (omega arith)), above n (omega arith))
 
-  below : (n : ℕ) → address f < n → listed_below n (f ∷ S) ≡ more (type_of S (address f)) (meaning (type_of S (address f)) f) (listed_below n S)
+  below : (n : ℕ) → address f < n → listed_below n (f ∷ S) ≡ more (standing_type S (address f)) (meaning (standing_type S (address f)) f) (listed_below n S)
   unfolding listed_below
   below zero h = absurd (omega arith)
   below (suc n) h = go (eqb (address f) n) refl (below n)
     where
       go : (c : Bool) → eqb (address f) n ≡ c
-          → (address f < n → listed_below n (f ∷ S) ≡ more (type_of S (address f)) (meaning (type_of S (address f)) f) (listed_below n S))
-          → yes_if (type_of (f ∷ S) n) + listed_below n (f ∷ S) ≡ more (type_of S (address f)) (meaning (type_of S (address f)) f) (yes_if (type_of S n) + listed_below n S)
+          → (address f < n → listed_below n (f ∷ S) ≡ more (standing_type S (address f)) (meaning (standing_type S (address f)) f) (listed_below n S))
+          → yes_if (standing_type (f ∷ S) n) + listed_below n (f ∷ S) ≡ more (standing_type S (address f)) (meaning (standing_type S (address f)) f) (yes_if (standing_type S n) + listed_below n S)
       go true e ih =
-          rw (← (eqb-true (address f) n e), above (address f) (omega arith), here_type f S (meaning (type_of S (address f)) f) refl)
+          rw (← (eqb-true (address f) n e), above (address f) (omega arith), here_type f S (meaning (standing_type S (address f)) f) refl)
           (one_more_lem _ _ _)
       go false e ih = let d : address f ≢ n = eqb-false (address f) n e in rw (other_type f S n e, ih (omega arith)) (more_later _ _ _ _)
 

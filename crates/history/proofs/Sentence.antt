@@ -10,7 +10,7 @@ use lib.Dec.{eqb, ltb}
 use lib.ListN.{drop}
 use borrow.Author.Tests.{eqb-true, eqb-false, ltb-true, ltb-false}
 use Rattle.places.specs.Runs.{Run, Saying, silent, asks, tells, said_from, said, Meaning, refuses, names, enters}
-use Rattle.history.specs.Standing.{Frame, address, typed, type_of, Known, unknown, told, after, gave, latest, standing}
+use Rattle.history.specs.Standing.{Frame, address, typed, standing_type, Known, unknown, told, after, gave, latest, standing}
 use Rattle.history.specs.Sentence.{Stands, heard_as, Entry, saying, NotHidden, Since, Gave, Named, PlaceSaid, Entered, TypeSaid, Sentence, SentenceDecides}
 use Rattle.history.proofs.Demand3.{demand_3}
 
@@ -168,15 +168,15 @@ unfolding latest
 place_said [] a p = inr (record { none_names = λ n f before s. absurd (nobody s.stands); not_known = refl })
 place_said (f ∷ S) a p = place-step f S a p (latest S a p) (eqb (address f) a) refl (heard_as f S) refl (place_said S a p)
 
-type_said : (S : List Frame) (a : ℕ) → TypeSaid S a (type_of S a)
-unfolding type_of
+type_said : (S : List Frame) (a : ℕ) → TypeSaid S a (standing_type S a)
+unfolding standing_type
 type_said [] a = inr (record { no_entry = λ n f before s e. nobody s; no_type = refl })
-type_said (f ∷ S) a = type_step f S a (type_of S a) (eqb (address f) a) refl (heard_as f S) refl (type_said S a)
+type_said (f ∷ S) a = type_step f S a (standing_type S a) (eqb (address f) a) refl (heard_as f S) refl (type_said S a)
 
 pub sentence : Sentence
 sentence b whole d allowed h a =
     record {
-      type = type_of (standing d h) a;
+      type = standing_type (standing d h) a;
       known = latest (standing d h) a;
       tells = (demand_3 b whole d allowed h).each a;
       type_said = type_said (standing d h) a;

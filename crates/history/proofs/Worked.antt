@@ -8,13 +8,13 @@ use Rattle.judging.specs.Reading.{reading, command_read, request_read}
 use Rattle.places.specs.Places.{cell_asked, led_asked, blind_asked}
 use Rattle.places.specs.Runs.{said_from, meaning_of, meant, read_as}
 use Rattle.questions.specs.Question.{Reply}
-use Rattle.history.specs.Standing.{deepest, sense, meaning, typed, type_of, after, gave, latest, more, listed, judged, judgement, stands, but_latest, struck, counted, standing, kept}
+use Rattle.history.specs.Standing.{deepest, sense, meaning, typed, standing_type, after, gave, latest, more, listed, judged, judgement, stands, but_latest, struck, counted, standing, kept}
 use Rattle.history.specs.Asked.{told_as, told_reply}
 use Rattle.history.specs.Cases.{example, Worked}
 use Rattle.history.proofs.Demand3.{demand_3}
 
 pub worked : Worked
-unfolding tab line_of rows_of extent_of position_in blind_of reading command_read request_read cell_asked led_asked blind_asked said_from meaning_of meant read_as sense meaning typed type_of after gave latest more listed judged judgement stands but_latest struck counted standing kept told_as told_reply
+unfolding tab line_of rows_of extent_of position_in blind_of reading command_read request_read cell_asked led_asked blind_asked said_from meaning_of meant read_as sense meaning typed standing_type after gave latest more listed judged judgement stands but_latest struck counted standing kept told_as told_reply
 worked =
     record {
       numbers = refl;

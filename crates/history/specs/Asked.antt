@@ -9,7 +9,7 @@ use Rattle.shape.specs.declared.answers.Answer.{Answer}
 use Rattle.shape.specs.declared.answers.Answer.TheVariants.{Value, NotHeard}
 use Rattle.places.specs.Places.{year_place, week_place, led_place, blind_place, character_place, cell_place}
 use Rattle.questions.specs.Question.{Question, type_of, build_year, build_week, cell, led, blind, name_row, name_bytes, memory_row, memory_bytes, Reply, answering, value, refusing}
-use Rattle.history.specs.Standing.{Frame, Known, unknown, told, type_of}
+use Rattle.history.specs.Standing.{Frame, Known, unknown, told, standing_type}
 
 -- the answer to a question on what is known: a value, or that it is not heard
 abbrev pub answer_of : Known → Answer
@@ -97,4 +97,4 @@ yes_if none = 0
 yes_if (some kind) = 1
 
 unfoldable pub told_listed : List Frame → List ℕ → Reply
-told_listed S out = over_row 0 (tab 256 (λ a. yes_if (type_of S a))) out
+told_listed S out = over_row 0 (tab 256 (λ a. yes_if (standing_type S a))) out

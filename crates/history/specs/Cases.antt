@@ -6,7 +6,7 @@ use Rattle.shape.specs.declared.answers.Answer.TheVariants.{Value, NotHeard, Ref
 use Rattle.shape.specs.Layout.{size}
 use Rattle.questions.specs.Question.{Question, Reply, build_year, cell, led, blind}
 use Rattle.questions.specs.Replies.{reply}
-use Rattle.history.specs.Standing.{Event, hear, back, deepest, standing, type_of, latest}
+use Rattle.history.specs.Standing.{Event, hear, back, deepest, standing, standing_type, latest}
 use Rattle.history.specs.Asked.{told_reply}
 use Rattle.history.specs.Demand3.{run_bytes}
 
@@ -36,7 +36,7 @@ status channel state = low (0xEC ∷ channel ∷ 0x00 ∷ state ∷ 0x00 ∷ 0x0
 
 -- what the standing frames tell after the events, from a fresh picture of the depth d
 abbrev pub told_to : ℕ → List Event → Question → List ℕ → Reply
-told_to d es q out = told_reply (type_of (standing d (reverse es)) example) (latest (standing d (reverse es)) example) q out
+told_to d es q out = told_reply (standing_type (standing d (reverse es)) example) (latest (standing d (reverse es)) example) q out
 
 pub record Case : Type 0 where
   pub events : List Event

@@ -13,7 +13,7 @@ use Rattle.stores.specs.Stepping.{stepping_back}
 use Rattle.steering.specs.Fresh.{freshening_with}
 use Rattle.questions.specs.Question.{Question}
 use Rattle.questions.specs.Replies.{reply, kept_answer, listing}
-use Rattle.history.specs.Standing.{Frame, Known, type_of, latest, listed, Event, hear, back, deepest, standing, kept, answered, outcome_of}
+use Rattle.history.specs.Standing.{Frame, Known, standing_type, latest, listed, Event, hear, back, deepest, standing, kept, answered, outcome_of}
 use Rattle.history.specs.Asked.{yes_if, told_reply, told_listed}
 use Rattle.history.specs.Machine.{Module, run, step, find, kind_of}
 
@@ -22,7 +22,7 @@ pub record Agrees (d : ℕ) (h : List Event) : Type 0 where
   -- the count kept
   pub count : length (run d h).log ≡ kept d h
   -- which addresses are listed, and with which type
-  pub type_at : (a : ℕ) → kind_of (find (run d h).modules a) ≡ type_of (standing d h) a
+  pub type_at : (a : ℕ) → kind_of (find (run d h).modules a) ≡ standing_type (standing d h) a
   -- every place of every module
   pub place_at : (a : ℕ) (m : Module) → find (run d h).modules a ≡ some m → (p : ℕ) → p < places → get_or m.places p none ≡ some (latest (standing d h) a p)
   -- the room taken
@@ -36,7 +36,7 @@ MachineAgrees = (d : ℕ) (h : List Event) → Agrees d h
 -- The number of modules listed is the number of the 256 addresses with a type.
 unfoldable pub listed_below : ℕ → List Frame → ℕ
 listed_below zero S = 0
-listed_below (suc n) S = yes_if (type_of S n) + listed_below n S
+listed_below (suc n) S = yes_if (standing_type S n) + listed_below n S
 
 abbrev pub ListedIs : Type 0
 ListedIs = (S : List Frame) → listed S ≡ listed_below 256 S
@@ -68,7 +68,7 @@ Tells b a t known = (q : Question) (out : List ℕ) → reply b a q out ≡ told
 pub record Answers (b : List ℕ) (d : ℕ) (h : List Event) : Type 0 where
   pub count : kept_answer b ≡ Value (kept d h)
   pub addresses_listed : (out : List ℕ) → listing b out ≡ told_listed (standing d h) out
-  pub each : (a : ℕ) → Tells b a (type_of (standing d h) a) (latest (standing d h) a)
+  pub each : (a : ℕ) → Tells b a (standing_type (standing d h) a) (latest (standing d h) a)
   pub next : (e : Event) → (doing e b).outcome ≡ outcome_of (answered d h e)
 
 -- for every depth that may be named, every buffer and every run of events

@@ -13,7 +13,7 @@ use Rattle.places.specs.Runs.{Run, said, Meaning, refuses, names, enters, meanin
 use Rattle.shape.specs.Layout.{size}
 use Rattle.questions.specs.Question.{Question}
 use Rattle.questions.specs.Replies.{reply, listing}
-use Rattle.history.specs.Standing.{most_listed, deepest, Frame, address, sense, meaning, Known, unknown, after, type_of, latest, listed, accepted, judgement, Event, hear, back, standing, kept}
+use Rattle.history.specs.Standing.{most_listed, deepest, Frame, address, sense, meaning, Known, unknown, after, standing_type, latest, listed, accepted, judgement, Event, hear, back, standing, kept}
 use Rattle.history.specs.Demand3.{doing, run_bytes, Tells}
 
 -- Every question on the address a, with any lent buffer, is answered alike.
@@ -29,7 +29,7 @@ Own c a t known (enters k r) = Tells c a (some k) (λ p. after (said r p) unknow
 
 pub record Effect (b c : List ℕ) (S : List Frame) (f : Frame) : Type 0 where
   pub elsewhere : (a : ℕ) → a ≢ address f → Alike b c a
-  pub own : Own c (address f) (type_of S (address f)) (latest S (address f)) (meaning (type_of S (address f)) f)
+  pub own : Own c (address f) (standing_type S (address f)) (latest S (address f)) (meaning (standing_type S (address f)) f)
 
 -- An accepted frame changes the module that it addresses, as its run says, and no other.
 abbrev pub Effects : Type 0
@@ -48,20 +48,20 @@ Reads kind f m = reading kind f.identifier f.remote f.bytes ≡ Read (address_of
 -- a command at a listed module, also FF of the module's own type: the places of its run, and no other, hold what it says
 abbrev pub HearsCommand : Type 0
 HearsCommand =
-    (b : List ℕ) → size ≤ length b → (d : ℕ) → d ≤ deepest → (h : List Event) (f : Frame) (kind : ℕ) (m : Command) (r : Run) → type_of (standing d h) (address f) ≡ some kind
+    (b : List ℕ) → size ≤ length b → (d : ℕ) → d ≤ deepest → (h : List Event) (f : Frame) (kind : ℕ) (m : Command) (r : Run) → standing_type (standing d h) (address f) ≡ some kind
     → Reads kind f m → sense (some kind) (meaning_of kind m) ≡ names r
     → HeardAs b d h f (some kind) (λ p. after (said r p) (latest (standing d h) (address f) p))
 
 -- FF at an unlisted address while there is room: a module with nothing known but its build
 abbrev pub HearsEntry : Type 0
 HearsEntry =
-    (b : List ℕ) → size ≤ length b → (d : ℕ) → d ≤ deepest → (h : List Event) (f : Frame) (m : Command) (k : ℕ) (r : Run) → type_of (standing d h) (address f) ≡ none
+    (b : List ℕ) → size ≤ length b → (d : ℕ) → d ≤ deepest → (h : List Event) (f : Frame) (m : Command) (k : ℕ) (r : Run) → standing_type (standing d h) (address f) ≡ none
     → Reads no_type f m → meaning_of no_type m ≡ enters k r → listed (standing d h) < most_listed → HeardAs b d h f (some k) (λ p. after (said r p) unknown)
 
 -- FF of another type at a listed module: likewise, and no step back is kept
 abbrev pub HearsExchange : Type 0
 HearsExchange =
-    (b : List ℕ) → size ≤ length b → (d : ℕ) → d ≤ deepest → (h : List Event) (f : Frame) (kind : ℕ) (m : Command) (k : ℕ) (r : Run) → type_of (standing d h) (address f) ≡ some kind
+    (b : List ℕ) → size ≤ length b → (d : ℕ) → d ≤ deepest → (h : List Event) (f : Frame) (kind : ℕ) (m : Command) (k : ℕ) (r : Run) → standing_type (standing d h) (address f) ≡ some kind
     → Reads kind f m → meaning_of kind m ≡ enters k r → k ≢ kind
     → HeardAs b d h f (some k) (λ p. after (said r p) unknown) × (kept d (hear f ∷ h) ≡ 0)
 
@@ -79,9 +79,9 @@ BackOver =
 -- The sixteenth module is entered by f, and g would enter a seventeenth: it is refused; after a step back, where one is granted, it has the room.
 pub record Sixteenth (S : List Frame) (f g : Frame) (k l : ℕ) (r q : Run) : Type 0 where
   pub fifteen : suc (listed S) ≡ most_listed
-  pub f_new : type_of S (address f) ≡ none
+  pub f_new : standing_type S (address f) ≡ none
   pub f_enters : meaning none f ≡ enters k r
-  pub g_new : type_of S (address g) ≡ none
+  pub g_new : standing_type S (address g) ≡ none
   pub apart : address f ≢ address g
   pub g_enters : meaning none g ≡ enters l q
 

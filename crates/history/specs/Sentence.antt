@@ -4,7 +4,7 @@ use Rattle.std.specs.Prelude.{ℕ, ◌<◌, ◌≤◌, ◌≡◌, ◌⊎◌, Lis
 use Rattle.std.proofs.Math.Option.{Option, none, some}
 use Rattle.shape.specs.Layout.{size}
 use Rattle.places.specs.Runs.{Run, Saying, silent, asks, tells, said, Meaning, refuses, names, enters, run_in}
-use Rattle.history.specs.Standing.{Frame, address, meaning, type_of, Known, unknown, told, Event, deepest, standing}
+use Rattle.history.specs.Standing.{Frame, address, meaning, standing_type, Known, unknown, told, Event, deepest, standing}
 use Rattle.history.specs.Demand3.{run_bytes, Tells}
 
 -- ---- a standing frame
@@ -15,7 +15,7 @@ pub record Stands (S : List Frame) (a n : ℕ) (f : Frame) (before : List Frame)
 
 -- what it meant when it was heard; whether it was an entry; what it said of the place p
 abbrev pub heard_as : Frame → List Frame → Meaning
-heard_as f before = meaning (type_of before (address f)) f
+heard_as f before = meaning (standing_type before (address f)) f
 
 abbrev pub Entry : Meaning → Type 0
 Entry (refuses n) = ⊥

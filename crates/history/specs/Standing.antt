@@ -51,9 +51,9 @@ typed true (refuses n) before = before
 typed true (names r) before = before
 typed true (enters k r) before = some k
 
-unfoldable pub type_of : List Frame → ℕ → Option ℕ
-type_of [] a = none
-type_of (f ∷ S) a = typed (eqb (address f) a) (meaning (type_of S (address f)) f) (type_of S a)
+unfoldable pub standing_type : List Frame → ℕ → Option ℕ
+standing_type [] a = none
+standing_type (f ∷ S) a = typed (eqb (address f) a) (meaning (standing_type S (address f)) f) (standing_type S a)
 
 -- What is known of a place.
 pub data Known : Type 0 where
@@ -75,7 +75,7 @@ gave true (enters k r) p before = after (said r p) unknown
 
 unfoldable pub latest : List Frame → ℕ → ℕ → Known
 latest [] a p = unknown
-latest (f ∷ S) a p = gave (eqb (address f) a) (meaning (type_of S (address f)) f) p (latest S a p)
+latest (f ∷ S) a p = gave (eqb (address f) a) (meaning (standing_type S (address f)) f) p (latest S a p)
 
 -- How many modules are listed: the standing frames that entered an address with no module.
 unfoldable pub more : Option ℕ → Meaning → ℕ → ℕ
@@ -86,7 +86,7 @@ more (some t) (enters k r) n = n
 
 unfoldable pub listed : List Frame → ℕ
 listed [] = 0
-listed (f ∷ S) = more (type_of S (address f)) (meaning (type_of S (address f)) f) (listed S)
+listed (f ∷ S) = more (standing_type S (address f)) (meaning (standing_type S (address f)) f) (listed S)
 
 -- How a frame is judged. An exchange is accepted too; it is told apart because it empties the way back.
 pub data Judgement : Type 0 where
@@ -101,7 +101,7 @@ judged none n (enters k r) = cond (ltb n most_listed) accepted (refused no_room)
 judged (some t) n (enters k r) = exchanged
 
 unfoldable pub judgement : List Frame → Frame → Judgement
-judgement S f = judged (type_of S (address f)) (listed S) (meaning (type_of S (address f)) f)
+judgement S f = judged (standing_type S (address f)) (listed S) (meaning (standing_type S (address f)) f)
 
 -- what is answered outside
 unfoldable pub outcome_of : Judgement → Outcome

@@ -11,7 +11,7 @@ use borrow.Author.Tests.{eqb-false, eq-eqb, lt-ltb}
 use Rattle.kinds.specs.Types.{vmb8ir}
 use Rattle.places.specs.Runs.{Run, said, no_run, names, enters}
 use Rattle.shape.specs.Layout.{size}
-use Rattle.history.specs.Standing.{most_listed, deepest, Frame, address, meaning, typed, type_of, Known, unknown, after, gave, latest, listed, Judgement, refused, accepted, exchanged, judged, judgement, outcome_of, hear, stands, standing, answered}
+use Rattle.history.specs.Standing.{most_listed, deepest, Frame, address, meaning, typed, standing_type, Known, unknown, after, gave, latest, listed, Judgement, refused, accepted, exchanged, judged, judgement, outcome_of, hear, stands, standing, answered}
 use Rattle.history.specs.Demand3.{run_bytes, Tells}
 use Rattle.history.proofs.Demand3.{demand_3}
 use Rattle.lessons.specs.Hearing.{frames_at}
@@ -36,7 +36,7 @@ heard_by first (r ∷ rs) p = hears r (heard_by first rs) p
 
 -- the frames S list a module of our type at the address, and this is known of it
 pub record Shows (S : List Frame) (a : ℕ) (pic : ℕ → Known) : Type 0 where
-  pub kind : type_of S a ≡ some vmb8ir
+  pub kind : standing_type S a ≡ some vmb8ir
   pub known : (p : ℕ) → latest S a p ≡ pic p
 
 -- every frame at the address is accepted as it is heard
@@ -52,7 +52,7 @@ module _ (d a : ℕ) (f : Frame) (fs : List Frame) where
 
   -- elsewhere
   elsewhere : (j : Judgement) → eqb (address f) a ≡ false → (pic : ℕ → Known) → Shows (standing d (map hear fs)) a pic → Shows (stands j f (standing d (map hear fs))) a pic
-  unfolding stands type_of typed latest gave
+  unfolding stands standing_type typed latest gave
   elsewhere (refused n) e pic s = s
   elsewhere accepted e pic s = record { kind = rw e s.kind; known = λ p. rw e (s.known p) }
   elsewhere exchanged e pic s = record { kind = rw e s.kind; known = λ p. rw e (s.known p) }
@@ -61,35 +61,35 @@ module _ (d a : ℕ) (f : Frame) (fs : List Frame) where
   unfolding standing
   other e pic s = elsewhere (judgement (standing d (map hear fs)) f) e pic s
 
-  no_type : (j : Judgement) → eqb (address f) a ≡ false → type_of (standing d (map hear fs)) a ≡ none → type_of (stands j f (standing d (map hear fs))) a ≡ none
-  unfolding stands type_of typed
+  no_type : (j : Judgement) → eqb (address f) a ≡ false → standing_type (standing d (map hear fs)) a ≡ none → standing_type (stands j f (standing d (map hear fs))) a ≡ none
+  unfolding stands standing_type typed
   no_type (refused n) e t = t
   no_type accepted e t = rw e t
   no_type exchanged e t = rw e t
 
-  still_none : eqb (address f) a ≡ false → type_of (standing d (map hear fs)) a ≡ none → type_of (standing d (map hear (f ∷ fs))) a ≡ none
+  still_none : eqb (address f) a ≡ false → standing_type (standing d (map hear fs)) a ≡ none → standing_type (standing d (map hear (f ∷ fs))) a ≡ none
   unfolding standing
   still_none e t = no_type (judgement (standing d (map hear fs)) f) e t
 
   -- at the address
   module _ (q : address f ≡ a) where
     -- a request, before there is a module
-    asked-only : type_of (standing d (map hear fs)) a ≡ none → meaning none f ≡ names no_run → judgement (standing d (map hear fs)) f ≡ accepted
+    asked-only : standing_type (standing d (map hear fs)) a ≡ none → meaning none f ≡ names no_run → judgement (standing d (map hear fs)) f ≡ accepted
     unfolding judgement judged
     asked-only t m = rw (q, t, m)
 
-    asked-none : type_of (standing d (map hear fs)) a ≡ none → meaning none f ≡ names no_run → type_of (standing d (map hear (f ∷ fs))) a ≡ none
-    unfolding type_of typed
+    asked-none : standing_type (standing d (map hear fs)) a ≡ none → meaning none f ≡ names no_run → standing_type (standing d (map hear (f ∷ fs))) a ≡ none
+    unfolding standing_type typed
     asked-none t m = rw (stood (asked-only t m), eq-eqb (address f) a q, q, t, m)
 
     -- the type frame
-    module _ (r : Run) (t : type_of (standing d (map hear fs)) a ≡ none) (m : meaning none f ≡ enters vmb8ir r) (room : listed (standing d (map hear fs)) < most_listed) where
+    module _ (r : Run) (t : standing_type (standing d (map hear fs)) a ≡ none) (m : meaning none f ≡ enters vmb8ir r) (room : listed (standing d (map hear fs)) < most_listed) where
       pub enters-stands : judgement (standing d (map hear fs)) f ≡ accepted
       unfolding judgement judged
       enters-stands = rw (q, t, m, lt-ltb (listed (standing d (map hear fs))) most_listed room)
 
       pub enters_shows : Shows (standing d (map hear (f ∷ fs))) a (heard_by r [])
-      unfolding type_of typed latest gave heard_by
+      unfolding standing_type typed latest gave heard_by
       enters_shows =
           record {
             kind = rw (stood enters-stands, eq-eqb (address f) a q, q, t, m);
@@ -103,7 +103,7 @@ module _ (d a : ℕ) (f : Frame) (fs : List Frame) where
       named-stands = rw (q, s.kind, m)
 
       pub named_shows : Shows (standing d (map hear (f ∷ fs))) a (hears r pic)
-      unfolding type_of typed latest gave
+      unfolding standing_type typed latest gave
       named_shows =
           record {
             kind = rw (stood named-stands, eq-eqb (address f) a q, q, s.kind, m);
@@ -116,11 +116,11 @@ AllAsk a [] = Unit {0}
 AllAsk a (f ∷ fs) = ((address f ≡ a) × (meaning none f ≡ names no_run)) × AllAsk a fs
 
 pub record Quiet (d a : ℕ) (fs : List Frame) : Type 0 where
-  pub untyped : type_of (standing d (map hear fs)) a ≡ none
+  pub untyped : standing_type (standing d (map hear fs)) a ≡ none
   pub stand : AllStand d a fs
 
 pub quiet : (d a : ℕ) (fs : List Frame) → AllAsk a (frames_at a fs) → Quiet d a fs
-unfolding frames_at standing type_of AllStand
+unfolding frames_at standing standing_type AllStand
 quiet d a [] h = record { untyped = refl; stand = tt }
 quiet d a (f ∷ fs) h = go (eqb (address f) a) refl h (quiet d a fs)
   where
