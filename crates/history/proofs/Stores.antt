@@ -45,8 +45,8 @@ within_pair b o v t =
 
 -- Bytes laid one after the other from o on: g n is what n of them leave, and v i is the i-th.
 pub record Lays (g : ℕ → List ℕ) (b : List ℕ) (o : ℕ) (v : ℕ → ℕ) : Type 0 where
-  pub at_first_lem : g 0 ≡ b
-  pub one_more_lem : (n : ℕ) → g (suc n) ≡ set (g n) (o + n) (v n)
+  pub at_first : g 0 ≡ b
+  pub one_more : (n : ℕ) → g (suc n) ≡ set (g n) (o + n) (v n)
 
 module _ {g : ℕ → List ℕ} {b : List ℕ} {o : ℕ} {v : ℕ → ℕ} (lays : Lays g b o v) where
   pub laid-within : (n : ℕ) → Within o (o + n) b (g n)
@@ -66,20 +66,20 @@ module _ {g : ℕ → List ℕ} {b : List ℕ} {o : ℕ} {v : ℕ → ℕ} (lays
 -- a row stored, the first bytes made 0, a buffer filled
 pub stored_lays : (b : List ℕ) (o : ℕ) (row : List ℕ) → Lays (stored b o row) b o (λ n. get_or row n 0)
 unfolding stored
-stored_lays b o row = record { at_first_lem = refl; one_more_lem = λ n. refl }
+stored_lays b o row = record { at_first = refl; one_more = λ n. refl }
 
 pub zeroed_lays : (b : List ℕ) → Lays (zeroed b) b 0 (λ n. 0)
 unfolding zeroed
-zeroed_lays b = record { at_first_lem = refl; one_more_lem = λ n. rw zero-add }
+zeroed_lays b = record { at_first = refl; one_more = λ n. rw zero-add }
 
 pub filled_lays : (f : ℕ → ℕ) (out : List ℕ) → Lays (filled_to f out) out 0 f
 unfolding filled_to
-filled_lays f out = record { at_first_lem = refl; one_more_lem = λ n. rw zero-add }
+filled_lays f out = record { at_first = refl; one_more = λ n. rw zero-add }
 
 -- bytes copied, to where they do not overlap
 pub copied_lays : (b : List ℕ) (to from : ℕ) → Lays (copied b to from) b to (λ n. get_or (copied b to from n) (from + n) 0)
 unfolding copied
-copied_lays b to from = record { at_first_lem = refl; one_more_lem = λ n. refl }
+copied_lays b to from = record { at_first = refl; one_more = λ n. refl }
 
 pub copied_at : (b : List ℕ) (to from n j : ℕ) → ((i : ℕ) → i < n → to ≤ from + i → from + i < to + n → ⊥) → j < n → to + n ≤ length b
     → get_or (copied b to from n) (to + j) 0 ≡ get_or b (from + j) 0

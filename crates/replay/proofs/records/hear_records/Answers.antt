@@ -5,32 +5,27 @@ use Rattle.recording.proofs.Entries.{records_are_whole}
 use Rattle.replay.specs.Replay.{Run, one, heard_by, replayed, run_on}
 use Rattle.replay.proofs.Runs.{run_on_lem, run-ended, run-broken, one_or_none}
 use Rattle.replay.proofs.records.hear_records.Goals as goal
+use Rattle.replay.proofs.records.hear_records.Goals.{In-Record}
 
 -- the record that this turn read
-took : (n : tie.After-known-told invariant-loop decreases-loop) →
-    let f = n.before.identifier.given.0 in
-    Whole (length n.before.before.before.before.before.before.before.args.s.now) n.before.before.before.before.loop.at f.0 f.1.0 f.1.1.0 f.1.1.1.0 f.1.1.1.1.0 f.1.1.1.1.1.0
-took n =
-    let g = n.before.identifier.given in
-    let f = g.0 in
-    records_are_whole n.before.before.before.before.before.before.before.args.s.now n.before.before.before.before.loop.at f.0 f.1.0 f.1.1.0 f.1.1.1.0 f.1.1.1.1.0 f.1.1.1.1.1.0
-    (sym n.before.before.before.read-record.ensures ∙ g.1)
+took : (c : In-Record) → Whole (length c.args.s.now) c.loop-identifier.at c.in-Record.gap c.in-Record.identifier c.in-Record.remote c.in-Record.start c.in-Record.len c.in-Record.next
+took c = records_are_whole c.args.s.now c.loop-identifier.at c.in-Record.gap c.in-Record.identifier c.in-Record.remote c.in-Record.start c.in-Record.len c.in-Record.next (sym c.read_record.ensures ∙ c.in-Record.is)
 
 pub loop-identifier-init : goal.loop-identifier-init
 loop-identifier-init c = (omega arith, omega arith, omega arith, refl, refl)
 
 pub overflow_add-start : goal.overflow_add-start
-overflow_add-start c = let w = took c in omega (arith, w.ends, w.inside)
+overflow_add-start c = let w = took (goal.at.overflow_add-start c).In-Record in omega (arith, w.ends, w.inside)
 
 pub slice_bounds-hear_one-end : goal.slice_bounds-hear_one-end
-slice_bounds-hear_one-end c = let w = took c in search rules
+slice_bounds-hear_one-end c = let w = took (goal.at.slice_bounds-hear_one-end c).In-Record in search rules
 
 pub loop-identifier-smaller : goal.loop-identifier-smaller
-loop-identifier-smaller c = let w = took c in omega (arith, w.starts, w.ends, w.inside)
+loop-identifier-smaller c = let w = took (goal.at.loop-identifier-smaller c).In-Record in omega (arith, w.starts, w.ends, w.inside)
 
 pub loop-identifier-preserved : goal.loop-identifier-preserved
 loop-identifier-preserved c =
-    let w = took c in
+    let w = took (goal.at.loop-identifier-preserved c).In-Record in
     let a = c.args in
     let l = c.loop-identifier in
     let h = c.hear_one-refused in

@@ -11,7 +11,7 @@ use Rattle.replay.proofs.window.hear_part.Goals.{Then-fits}
 
 -- the part lies in the window
 inside : (c : Then-fits) → c.args.stream.left + c.args.n ≤ length c.args.window.now
-inside c = leb-true _ _ (sym c.fits2.ensures ∙ c.if-fits.true)
+inside c = leb-true _ _ (sym c.fits.ensures ∙ c.if-fits.true)
 
 pub returns-then-picture-lt-SIZE : goal.returns-then-picture-lt-SIZE
 returns-then-picture-lt-SIZE c = let a = c.args in let both = part_no_picture a.picture.now a.window.now a.stream a.n c.if-picture-lt-SIZE.true in record { value = both.0; picture_after = both.1.0; window_after = both.1.1 }
@@ -38,9 +38,9 @@ returns-then-fits c =
     let w = a.window.now in
     let k = a.stream.left + a.n in
     let t = c.turn-r in
-    let h = part_heard a.picture.now w a.stream a.n c.if-picture-lt-SIZE.false (inside (goal.at.returns-then-fits c).Then-fits) in record { value = ap Heard (c.advance-heard.ensures ∙ ap (λ (r : Replay). advanced a.stream r k) t.ensures.value) ∙ h.0; picture_after = t.ensures.picture_after.0 ∙ h.1.0; window_after = t.ensures.picture_after.1 ∙ ap (λ (r : Replay). shifted w r.at k) t.ensures.value ∙ h.1.1 }
+    let h = part_heard a.picture.now w a.stream a.n c.if-picture-lt-SIZE.false (inside (goal.at.returns-then-fits c).Then-fits) in record { value = ap Heard (c.advance-heard.ensures ∙ ap (λ (r : Replay). advanced a.stream r k) t.ensures.value) ∙ h.0; picture_after = t.ensures.picture_after ∙ h.1.0; window_after = t.ensures.window_after ∙ ap (λ (r : Replay). shifted w r.at k) t.ensures.value ∙ h.1.1 }
 
 pub returns : goal.returns
 returns c =
     let a = c.args in
-    let both = part_no_room a.picture.now a.window.now a.stream a.n c.if-picture-lt-SIZE.false (leb-false _ _ (sym c.fits2.ensures ∙ c.if-fits.false)) in record { value = both.0; picture_after = both.1.0; window_after = both.1.1 }
+    let both = part_no_room a.picture.now a.window.now a.stream a.n c.if-picture-lt-SIZE.false (leb-false _ _ (sym c.fits.ensures ∙ c.if-fits.false)) in record { value = both.0; picture_after = both.1.0; window_after = both.1.1 }
