@@ -111,6 +111,8 @@ over-same (x ∷ xs) = (inr refl, over-same xs)
 over-said : (i : ℕ) (xs ys : List Saying) (p : ℕ) → Over xs ys → (said_from i xs p ≡ asks) ⊎ (said_from i xs p ≡ said_from i ys p)
 unfolding said_from
 over-said i [] [] p h = inr refl
+over-said i [] (y ∷ ys) p h = elim h [ ]
+over-said i (x ∷ xs) [] p h = elim h [ ]
 over-said i (x ∷ xs) (y ∷ ys) p h = go (eqb i p) h.0 (over-said (suc i) xs ys p h.1)
   where
     go : (c : Bool) → (x ≡ asks) ⊎ (x ≡ y) → (said_from (suc i) xs p ≡ asks) ⊎ (said_from (suc i) xs p ≡ said_from (suc i) ys p)

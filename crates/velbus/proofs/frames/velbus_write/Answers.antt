@@ -7,8 +7,8 @@ use Rattle.velbus.proofs.frames.velbus_write.Goals as goal
 
 pub returns-then-message : goal.returns-then-message
 unfolding write_word write_into
-returns-then-message c = record { value = rw (lt-ltb _ _ c.if-message.true) (c.refused.ensures, refl).0; out_after = rw (lt-ltb _ _ c.if-message.true) (c.refused.ensures, refl).1 }
+returns-then-message c = record { value = rw (lt-ltb _ _ c.if-message.true) (c.refused.ensures); out_after = rw (lt-ltb _ _ c.if-message.true) (refl) }
 
 pub returns : goal.returns
 unfolding write_word write_into
-returns c = record { value = rw (le-ltb _ _ c.if-message.false, ← c.held_in.ensures) (c.write_held.ensures.value, c.write_held.ensures.out_after).0; out_after = rw (le-ltb _ _ c.if-message.false, ← c.held_in.ensures) (c.write_held.ensures.value, c.write_held.ensures.out_after).1 }
+returns c = record { value = rw (le-ltb _ _ c.if-message.false, ← c.held_in.ensures) (c.write_held.ensures.value); out_after = rw (le-ltb _ _ c.if-message.false, ← c.held_in.ensures) (c.write_held.ensures.out_after) }

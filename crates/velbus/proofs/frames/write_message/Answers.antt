@@ -4,7 +4,7 @@ use borrow.Author.Rules.{rules}
 use Rattle.velbus.proofs.frames.write_message.Goals as goal
 
 pub returns-in-Written : goal.returns-in-Written
-returns-in-Written c = record { value = rw (← c.write.ensures, c.in-Written.is) (c.lay_frame.ensures.value, c.lay_frame.ensures.out_after).0; out_after = rw (← c.write.ensures, c.in-Written.is) (c.lay_frame.ensures.value, c.lay_frame.ensures.out_after).1 }
+returns-in-Written c = record { value = rw (← c.write.ensures, c.in-Written.is) (c.lay_frame.ensures.value); out_after = rw (← c.write.ensures, c.in-Written.is) (c.lay_frame.ensures.out_after) }
 
 pub returns-in-Refused : goal.returns-in-Refused
-returns-in-Refused c = record { value = rw (← c.write.ensures, c.in-Refused.is) (c.refused.ensures, refl).0; out_after = rw (← c.write.ensures, c.in-Refused.is) (c.refused.ensures, refl).1 }
+returns-in-Refused c = record { value = rw (← c.write.ensures, c.in-Refused.is) (c.refused.ensures); out_after = rw (← c.write.ensures, c.in-Refused.is) (refl) }
