@@ -32,12 +32,12 @@ pub returns-then-n-out : goal.returns-then-n-out
 returns-then-n-out c =
     let a = c.args in
     let p = c.put_lines-n in
-    let l = listing-copied a.picture.now a.out.now room p.new.out.0 p.result a.stream c.requires large p.ensures (omega arith) in
+    let l = listing-copied a.picture.now a.out.now room p.new.out p.result a.stream c.requires large p.ensures (omega arith) in
     record { value = l.0; out_after = c.copy_in.ensures ∙ l.1 }
 
 pub returns : goal.returns
 returns c =
     let a = c.args in
     let p = c.put_lines-n in
-    let whole = listing_whole a.picture.now room a.stream large p.new.out.0 p.result p.ensures in
+    let whole = listing_whole a.picture.now room a.stream large p.new.out p.result p.ensures in
     let both = listing_no_room a.picture.now a.out.now a.stream c.requires (omega (arith, whole.0)) in record { value = both.0; out_after = both.1 }

@@ -14,4 +14,4 @@ pub returns : goal.returns
 returns c =
     let a = c.args in
     let p = c.put_lines-n in
-    let both = listing_at_once a.picture.now a.out.now a.stream (omega arith) p.new.out.0 p.result p.ensures c.if-picture-lt-SIZE.false in record { value = both.0; out_after = both.1 }
+    let both = listing_at_once a.picture.now a.out.now a.stream (omega arith) p.new.out p.result p.ensures c.if-picture-lt-SIZE.false in record { value = both.0; out_after = both.1 }

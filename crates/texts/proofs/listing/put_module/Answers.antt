@@ -29,7 +29,7 @@ unfolding module_text
 returns-in-Value c =
     let a = c.args in
     let p = c.put_sheet in
-    subst (λ (text : List ℕ). Written a.out.now a.at text p.new.out.0 p.result)
+    subst (λ (text : List ℕ). Written a.out.now a.at text p.new.out p.result)
     (ap (typed_text a.picture.now a.address) (sym c.in-Value.is ∙ c.type_of.ensures)) p.ensures
 
 pub returns-in-NotHeard : goal.returns-in-NotHeard

@@ -29,7 +29,7 @@ loop-address-preserved c =
     let p = c.put_module-next in (
       omega arith,
       omega arith,
-      subst (λ (text : List ℕ). Written a.out.now a.at text p.new.out.0 p.result) (sym (modules_more a.picture.now l.address)) (followed l.invariant.2 p.ensures),
+      subst (λ (text : List ℕ). Written a.out.now a.at text p.new.out p.result) (sym (modules_more a.picture.now l.address)) (followed l.invariant.2 p.ensures),
     )
 
 pub returns : goal.returns

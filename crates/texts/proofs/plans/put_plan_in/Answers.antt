@@ -26,7 +26,7 @@ overflow_cast-result c =
     omega (
       arith,
       c.put_plan_line.ensures.past,
-      line-short (a.address.0 % 256) (take c.planned-count.result c.planned-count.new.starts.1.1.0) (omega (arith, ap length c.planned-count.ensures.1, c.planned-count.ensures.2, c.planned-count.ensures.0)),
+      line-short (a.address.0 % 256) (take c.planned-count.result c.planned-count.new.starts) (omega (arith, ap length c.planned-count.ensures.1, c.planned-count.ensures.2, c.planned-count.ensures.0)),
     )
 
 pub returns : goal.returns

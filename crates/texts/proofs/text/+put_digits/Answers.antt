@@ -17,7 +17,7 @@ pub returns-then-left-eq0 : goal.returns-then-left-eq0
 returns-then-left-eq0 t c = let a = c.args in nothing a.out.now a.at (decimal a.left a.n) (digits-none a.left a.n (omega arith))
 
 pub put_byte-requires : goal.put_byte-requires
-put_byte-requires t c = rw (digits_last c.args.left c.args.n (λ e. omega arith) (omega arith)) at c.requires.1
+put_byte-requires t c = rw (digits_last c.args.left c.args.n (λ e. omega arith) (omega arith)) at c.requires
 
 pub returns-then-n-lt10 : goal.returns-then-n-lt10
 returns-then-n-lt10 t c = let a = c.args in rw (digits_last a.left a.n (λ e. omega arith) (omega arith)) c.put_byte.ensures
@@ -25,12 +25,12 @@ returns-then-n-lt10 t c = let a = c.args in rw (digits_last a.left a.n (λ e. om
 pub put_digits-last-requires : goal.put_digits-last-requires
 put_digits-last-requires t c =
     let a = c.args in
-    (omega arith, room-first ((code "0" + a.n % 10) ∷ []) (more a.left a.n a.out.now a.at (λ e. omega arith) (omega arith) c.requires.1))
+    (omega arith, room-first ((code "0" + a.n % 10) ∷ []) (more a.left a.n a.out.now a.at (λ e. omega arith) (omega arith) c.requires))
 
 pub put_byte-requires-2 : goal.put_byte-requires-2
 put_byte-requires-2 t c =
     let a = c.args in
-    room_rest c.put_digits-last.ensures (more a.left a.n a.out.now a.at (λ e. omega arith) (omega arith) c.requires.1)
+    room_rest c.put_digits-last.ensures (more a.left a.n a.out.now a.at (λ e. omega arith) (omega arith) c.requires)
 
 pub returns : goal.returns
 returns t c =
