@@ -1,14 +1,17 @@
 // Reads a recording from standard input, of any length, and writes the listing of what was heard to standard output.
 #![tactic(auto)]
 
-use libc::{STDERR_FILENO, STDIN_FILENO, STDOUT_FILENO};
 use recorder::Put;
 use replay::{Part, Stream};
 use shape::Outcome;
+use std::io::{self, Read};
 use texts::LISTING_ROOM;
 
 // The way back's depth on which the classroom program has always relied.
 const DEPTH: u32 = 16;
+
+// The bytes of the input that are looked at together.
+const WINDOW: usize = 65536;
 
 // What became of the input: what was heard of it, or why it was not heard to its end.
 #[derive(Drop)]
@@ -18,75 +21,55 @@ enum Input {
     NoRoom,
 }
 
-// Reads more of the input after the window's first `left` bytes, and answers as `read` does: how many bytes came, 0 at the end,
-// less than 0 where reading failed.
-fn read_more(window: &mut [u8], left: usize) -> isize {
-    if window.len() < left {
-        return -1;
+// Reads more of the input after the window's first `left` bytes: how many bytes came, 0 at the end.
+fn read_more<R: Read>(input: &mut R, window: &mut [u8], left: usize) -> io::Result<usize> {
+    match window.get_mut(left..) {
+        Some(room) => input.read(room),
+        None => Err(io::Error::from(io::ErrorKind::InvalidInput)),
     }
-    libc::read(STDIN_FILENO, &mut window[left..])
 }
 
 // Hears the input, part by part, up to its end or to a bad number. A proved loop has to end, and nothing says that the input does: so
-// it counts down from a number that no run uses up.
-fn hear_input(picture: &mut [u8], window: &mut [u8]) -> Input {
+// it counts up to a number that no run reaches.
+fn hear_input<R: Read>(input: &mut R, picture: &mut [u8], window: &mut [u8]) -> Input {
     let mut stream = replay::begin();
-    let mut turns = u64::MAX;
-    let mut going = true;
-    let mut read = true;
-    let mut room = true;
-    while turns > 0 && going {
-        let got = read_more(window, stream.left);
-        let n = io::count(got, window);
-        read = got >= 0;
+    for _ in 0..u64::MAX {
+        let Ok(n) = read_more(input, window, stream.left) else {
+            return Input::NotRead;
+        };
         match replay::hear_part(picture, window, stream, n) {
-            Part::Heard(heard) => {
-                stream = heard;
-                going = n != 0 && heard.refusal != laws::BAD_NUMBER;
-            }
-            Part::Refused(_) => {
-                room = false;
-                going = false;
-            }
+            Part::Heard(heard) => stream = heard,
+            Part::Refused(_) => return Input::NoRoom,
         }
-        turns -= 1;
-    }
-    if !read {
-        return Input::NotRead;
-    }
-    if !room {
-        return Input::NoRoom;
+        if n == 0 || stream.refusal == laws::BAD_NUMBER {
+            break;
+        }
     }
     Input::Heard(stream)
 }
 
-fn tell(what: &[u8]) {
-    io::write_all(STDERR_FILENO, what);
-}
-
 // Lists what was heard, and tells where the listing could not be made, or not written to its end.
-fn put_out(picture: &[u8], stream: Stream) {
+fn put_out(rt: &(impl Print + Eprint), picture: &[u8], stream: Stream) -> io::Result<()> {
     let mut out = [0u8; LISTING_ROOM];
     let Put::Wrote(n) = texts::put_listing(picture, &mut out, stream) else {
-        tell(b"listing: there is no room for the listing\n");
-        return;
+        return eprintln!(rt; "listing: there is no room for the listing");
     };
-    if !io::write_all(STDOUT_FILENO, &out[0..n]) {
-        tell(b"listing: the listing could not be written\n");
+    match rt.write_all(&out[0..n]) {
+        Ok(()) => Ok(()),
+        Err(_) => eprintln!(rt; "listing: the listing could not be written"),
     }
 }
 
 // A recording that could not be read and heard to its end is told, and never shown as a short listing.
-fn main() {
+fn main(rt: HostRuntime) -> io::Result<()> {
     let mut picture = [0u8; picture::SIZE];
-    let mut window = io::large_buffer();
+    let mut window = [0u8; WINDOW];
     let Outcome::Done = picture::fresh_with(&mut picture, DEPTH) else {
-        tell(b"listing: there is no room for a picture\n");
-        return;
+        return eprintln!(rt; "listing: there is no room for a picture");
     };
-    match hear_input(&mut picture, &mut window) {
-        Input::Heard(stream) => put_out(&picture, stream),
-        Input::NotRead => tell(b"listing: the recording could not be read to its end\n"),
-        Input::NoRoom => tell(b"listing: there is no room for the recording\n"),
+    match hear_input(&mut rt.stdin(), &mut picture, &mut window) {
+        Input::Heard(stream) => put_out(&rt, &picture, stream),
+        Input::NotRead => eprintln!(rt; "listing: the recording could not be read to its end"),
+        Input::NoRoom => eprintln!(rt; "listing: there is no room for the recording"),
     }
 }
