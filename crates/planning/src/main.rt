@@ -170,7 +170,7 @@ fn put_frames(rt: &(impl Print + Eprint), picture: &[u8]) -> io::Result<()> {
 fn wants_frames(rt: &impl Env) -> bool {
     let mut word = [0u8; 16];
     match rt.arg(1, &mut word) {
-        Ok(n) => word[..n] == *b"--frames",
+        Ok(n) => word[..n] == b"--frames"[..],
         Err(_) => false,
     }
 }

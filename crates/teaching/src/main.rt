@@ -2,10 +2,14 @@
 // commands that the bench took, each with the bench's replies after it. A command that is refused is told on standard error, and is not written.
 #![tactic(auto)]
 
-use libc::{STDERR_FILENO, STDIN_FILENO, STDOUT_FILENO};
+ghost use Rattle.std.specs.Io.{ReadsAtMost};
+
 use recorder::Put;
 use recording::Entry;
 use shape::Outcome;
+use std::env::{Env, FillError};
+use std::fs::{File, Files};
+use std::io::{self, Read};
 use taking::Taken;
 
 // Where no argument names them: the address, the map version and the build. A cell then holds its own location.
@@ -22,9 +26,17 @@ const FRAME: usize = codec::FRAME_SIZE as usize;
 
 const REPLIES: usize = 64 * FRAME;
 
-fn tell(what: &[u8]) {
-    io::write_all(STDERR_FILENO, what);
-}
+// The most bytes of a lesson.
+const LESSON: usize = 65536;
+
+// The room for a command's record and those of its replies.
+const RECORDS: usize = 4096;
+
+// A lesson has no more records than bytes.
+const MOST_RECORDS: u64 = 65536;
+
+// The longest path that can be named.
+const PATH: usize = 4096;
 
 // ---- the arguments: the address, in hexadecimal, and a file of 256 bytes
 
@@ -61,53 +73,52 @@ fn address_in(text: &[u8]) -> u32 {
     16 * high + low
 }
 
-fn address_named() -> u32 {
-    if os::arg_count() < 2 {
-        return ADDRESS;
-    }
+fn address_named(rt: &impl Env) -> u32 {
     let mut text = [0u8; 16];
-    let n = os::arg(1, &mut text);
-    address_in(&text[..n])
+    match rt.arg(1, &mut text) {
+        Ok(n) => address_in(&text[..n]),
+        Err(FillError::NotPresent) => ADDRESS,
+        Err(FillError::TooLong) => u32::MAX,
+    }
 }
 
 // Each cell's own location.
 fn own_locations() -> [u8; 256] {
     let mut cells = [0u8; 256];
-    let mut l: u8 = 0;
-    while l < 255 {
+    for l in 0..=u8::MAX {
         cells[l as usize] = l;
-        l += 1;
     }
-    cells[255] = 255;
     cells
 }
 
-// The cells named in a file, and whether they could be read; fewer than 256 could not.
-fn read_cells(cells: &mut [u8; 256]) -> bool {
-    let mut path = io::buffer();
-    let n = os::arg(2, &mut path);
-    let file = os::open_read(&path[..n]);
-    if file < 0 {
-        return false;
+// The cells in the file of a path; one with fewer than 256 bytes has none.
+fn read_file<R: Files>(rt: &R, path: &[u8], cells: &mut [u8; 256]) -> io::Result<()> {
+    let Ok(path) = str::from_utf8(path) else {
+        return Err(io::Error::from(io::ErrorKind::InvalidFilename));
+    };
+    File::open(rt, path)?.read_exact(cells)
+}
+
+// The cells of the file that is named, where one is, and whether they could be read.
+fn read_cells<R: Env + Files>(rt: &R, cells: &mut [u8; 256]) -> bool {
+    let mut path = [0u8; PATH];
+    match rt.arg(2, &mut path) {
+        Ok(n) => read_file(rt, &path[..n], cells).is_ok(),
+        Err(FillError::NotPresent) => true,
+        Err(FillError::TooLong) => false,
     }
-    let got = io::read_full(file, cells);
-    libc::close(file);
-    got == 256
 }
 
 // ---- one command
 
 // A refusal, with its byte where it has one: `bench: record 3 refused 9 at byte 2`.
-fn tell_refusal(record: u64, code: u16) {
-    tell(b"bench: record ");
-    io::print_decimal(STDERR_FILENO, record);
-    tell(b" refused ");
-    io::print_decimal(STDERR_FILENO, (code % 256) as u64);
-    if code >= 256 {
-        tell(b" at byte ");
-        io::print_decimal(STDERR_FILENO, (code / 256) as u64);
+fn tell_refusal(rt: &impl Eprint, record: u64, code: u16) -> io::Result<()> {
+    let (number, byte) = (code % 256, code / 256);
+    if byte == 0 {
+        eprintln!(rt; "bench: record {record} refused {number}")
+    } else {
+        eprintln!(rt; "bench: record {record} refused {number} at byte {byte}")
     }
-    tell(b"\n");
 }
 
 // A record after the first `at` bytes of the buffer; how many bytes there are then.
@@ -122,7 +133,7 @@ fn put_after(
     let Put::Wrote(n) = recorder::put_record(out, at, gap, identifier, remote, data) else {
         return at;
     };
-    std::num::wrapping_add_usize(at, n)
+    at.wrapping_add(n)
 }
 
 // The reply whose frame lies at `from`, as a record after the first `at` bytes of the buffer; how many bytes there are then.
@@ -147,42 +158,41 @@ fn put_reply(out: &mut [u8], at: usize, replies: &[u8], from: usize) -> usize {
 // So many replies, one after the other.
 fn put_replies(out: &mut [u8], at: usize, replies: &[u8], count: u16) -> usize {
     let mut end = at;
-    let mut i: u16 = 0;
-    while i < count {
-        end = put_reply(out, end, replies, FRAME * (i as usize));
-        i += 1;
+    for i in 0..count {
+        end = put_reply(out, end, replies, FRAME * i as usize);
     }
     end
 }
 
 // Whether all of it was written.
-fn put_out(out: &[u8], end: usize) -> bool {
-    if end > out.len() {
-        return false;
+fn put_out(rt: &impl Print, out: &[u8], end: usize) -> bool {
+    match out.get(..end) {
+        Some(records) => rt.write_all(records).is_ok(),
+        None => false,
     }
-    io::write_all(STDOUT_FILENO, &out[0..end])
 }
 
 // A command for the bench: it and its replies go to standard output, its refusal to standard error. Whether what was to be written could be.
 fn command(
+    rt: &(impl Print + Eprint),
     bench: &mut [u8],
     record: u64,
     gap: u64,
     identifier: u32,
     remote: u32,
     data: &[u8],
-) -> bool {
+) -> io::Result<bool> {
     let mut replies = [0u8; REPLIES];
     match taking::bench_take(bench, identifier, remote, data, &mut replies) {
         Taken::Replies(count) => {
-            let mut out = io::buffer();
+            let mut out = [0u8; RECORDS];
             let first = put_after(&mut out, 0, gap, identifier, remote, data);
             let end = put_replies(&mut out, first, &replies, count);
-            put_out(&out, end)
+            Ok(put_out(rt, &out, end))
         }
         Taken::Refused(code) => {
-            tell_refusal(record, code);
-            true
+            tell_refusal(rt, record, code)?;
+            Ok(true)
         }
     }
 }
@@ -190,16 +200,18 @@ fn command(
 // ---- a lesson
 
 // A fault of the recording: `bench: broken at byte 17 refusal 15`.
-fn tell_fault(offset: usize, refusal: u16) {
-    tell(b"bench: broken at byte ");
-    io::print_decimal(STDERR_FILENO, offset as u64);
-    tell(b" refusal ");
-    io::print_decimal(STDERR_FILENO, refusal as u64);
-    tell(b"\n");
+fn tell_fault(rt: &impl Eprint, offset: usize, refusal: u16) -> io::Result<()> {
+    eprintln!(rt; "bench: broken at byte {offset} refusal {refusal}")
 }
 
-// The record at an offset; the offset of the next, or one past the end where there is none to come.
-fn one_record(bench: &mut [u8], lesson: &[u8], at: usize, record: u64) -> usize {
+// The record at an offset; the offset of the next, where there may be one.
+fn one_record(
+    rt: &(impl Print + Eprint),
+    bench: &mut [u8],
+    lesson: &[u8],
+    at: usize,
+    record: u64,
+) -> io::Result<Option<usize>> {
     match quick::read_record(lesson, at) {
         Entry::Record {
             gap,
@@ -209,60 +221,64 @@ fn one_record(bench: &mut [u8], lesson: &[u8], at: usize, record: u64) -> usize 
             len,
             next,
         } => {
-            if start > lesson.len() {
-                return usize::MAX;
+            let Some(data) = lesson.get(start..start.wrapping_add(len)) else {
+                return Ok(None);
+            };
+            if command(rt, bench, record, gap, identifier, remote, data)? {
+                return Ok(Some(next));
             }
-            if len > lesson.len() - start {
-                return usize::MAX;
-            }
-            let end = start + len;
-            if command(bench, record, gap, identifier, remote, &lesson[start..end]) {
-                next
-            } else {
-                tell(b"bench: the recording could not be written\n");
-                usize::MAX
-            }
+            eprintln!(rt; "bench: the recording could not be written")?;
         }
-        Entry::End => usize::MAX,
-        Entry::Broken { refusal, offset } => {
-            tell_fault(offset, refusal);
-            usize::MAX
-        }
+        Entry::End => {}
+        Entry::Broken { refusal, offset } => tell_fault(rt, offset, refusal)?,
     }
+    Ok(None)
 }
 
-// Every record. A proved loop has to end: it counts the records, of which there are no more than bytes.
-fn all_records(bench: &mut [u8], lesson: &[u8]) {
-    let mut at: usize = 0;
-    let mut record: u64 = 1;
-    while record <= 65536 && at <= lesson.len() {
-        at = one_record(bench, lesson, at, record);
-        record += 1;
+// Every record.
+fn all_records(rt: &(impl Print + Eprint), bench: &mut [u8], lesson: &[u8]) -> io::Result<()> {
+    let mut at = 0;
+    for record in 1..=MOST_RECORDS {
+        match one_record(rt, bench, lesson, at, record)? {
+            Some(next) => at = next,
+            None => break,
+        }
     }
+    Ok(())
 }
 
-// The lesson on standard input. One that could not be read to its end, or is too long, is told, and nothing is done of it.
-fn teach(bench: &mut [u8]) {
-    let mut lesson = io::large_buffer();
-    let mut more = [0u8; 1];
-    let n = io::read_full(STDIN_FILENO, &mut lesson);
-    let got = libc::read(STDIN_FILENO, &mut more);
-    if got < 0 {
-        tell(b"bench: the lesson could not be read to its end\n");
-        return;
+// Reads until the buffer is full or the input ends; how many bytes it then has of the input.
+fn read_full<R: Read>(input: &mut R, buf: &mut [u8]) -> io::Result<usize>
+    ensures { ReadsAtMost result buf.new }
+{
+    let mut done = 0;
+    while done < buf.len() {
+        let n = input.read(&mut buf[done..])?;
+        if n == 0 {
+            break;
+        }
+        done += n;
     }
-    if got > 0 {
-        tell(b"bench: the lesson has more than 65536 bytes\n");
-        return;
+    Ok(done)
+}
+
+// The lesson on the input. One that could not be read to its end, or is too long, is told, and nothing is done of it.
+fn teach<R: Read>(rt: &(impl Print + Eprint), input: &mut R, bench: &mut [u8]) -> io::Result<()> {
+    let mut lesson = [0u8; LESSON + 1];
+    let Ok(n) = read_full(input, &mut lesson) else {
+        return eprintln!(rt; "bench: the lesson could not be read to its end");
+    };
+    if n > LESSON {
+        return eprintln!(rt; "bench: the lesson has more than {LESSON} bytes");
     }
-    all_records(bench, &lesson[..n]);
+    all_records(rt, bench, &lesson[..n])
 }
 
 // The bench, made of what the arguments name.
-fn begin(bench: &mut [u8], cells: &[u8; 256]) -> Outcome {
+fn begin(rt: &impl Env, bench: &mut [u8], cells: &[u8; 256]) -> Outcome {
     bench::bench_new(
         bench,
-        address_named(),
+        address_named(rt),
         cells,
         MAP_VERSION,
         BUILD_YEAR,
@@ -270,15 +286,18 @@ fn begin(bench: &mut [u8], cells: &[u8; 256]) -> Outcome {
     )
 }
 
-fn main() {
+fn main(rt: HostRuntime) -> io::Result<()> {
     let mut bench = [0u8; bench::SIZE];
     let mut cells = own_locations();
-    if os::arg_count() > 2 && !read_cells(&mut cells) {
-        tell(b"bench: the file of cells could not be read, or has fewer than 256 bytes\n");
-        return;
+    if !read_cells(&rt, &mut cells) {
+        return eprintln!(rt;
+            "bench: the file of cells could not be read, or has fewer than 256 bytes"
+        );
     }
-    match begin(&mut bench, &cells) {
-        Outcome::Done => teach(&mut bench),
-        Outcome::Refused(_) => tell(b"bench: the address is two hexadecimal digits, 01 to FF\n"),
+    match begin(&rt, &mut bench, &cells) {
+        Outcome::Done => teach(&rt, &mut rt.stdin(), &mut bench),
+        Outcome::Refused(_) => {
+            eprintln!(rt; "bench: the address is two hexadecimal digits, 01 to FF")
+        }
     }
 }

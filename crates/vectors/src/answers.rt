@@ -1,6 +1,7 @@
 // Answers in words. Each begins with a space. An answer that outgrows its room is none, and agrees with nothing.
 use crate::text::{item, part, past};
 use crate::words::TYPES;
+use itoa::Buffer;
 use laws::byte_at;
 use shape::{Answer, NOT_HEARD};
 
@@ -33,9 +34,8 @@ pub(crate) fn say(s: &[u8]) -> Words {
 }
 
 pub(crate) fn add_decimal(w: Words, n: u64) -> Words {
-    let mut digits = [0u8; 20];
-    let k = io::decimal(n, &mut digits);
-    add(add(w, b" "), &digits[..k])
+    let mut digits = Buffer::new();
+    add(add(w, b" "), digits.format(n).as_bytes())
 }
 
 // A byte of two digits.
@@ -48,10 +48,8 @@ pub(crate) fn add_byte(w: Words, b: u8) -> Words {
 
 pub(crate) fn add_bytes(before: Words, bytes: &[u8]) -> Words {
     let mut w = before;
-    let mut i = 0;
-    while i < bytes.len() {
-        w = add_byte(w, bytes[i]);
-        i += 1;
+    for b in bytes {
+        w = add_byte(w, *b);
     }
     w
 }

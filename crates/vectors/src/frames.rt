@@ -85,7 +85,7 @@ fn read_number(kind: u32, identifier: u32, remote: u32, data: &[u8]) -> u16 {
     }
     let message = r.message;
     let frame = frame_of(kind, &message).frame;
-    if check::same(&frame, &laid(identifier, remote, data)) {
+    if frame == laid(identifier, remote, data) {
         KEPT
     } else {
         CHANGED
@@ -121,15 +121,13 @@ fn alike(others: u16, n: u16) -> u16 {
 pub(crate) fn each(r: Reader, data: &[u8]) -> Words {
     let mut kept = say(b" kept with");
     let mut others = KEPT;
-    let mut last: u32 = 0;
-    while last < 256 {
-        let n = ended(r, data, (last % 256) as u8);
+    for last in 0..=u8::MAX {
+        let n = ended(r, data, last);
         if n == KEPT {
-            kept = add_byte(kept, (last % 256) as u8);
+            kept = add_byte(kept, last);
         } else {
             others = alike(others, n);
         }
-        last += 1;
     }
     let w = refused(others);
     let bytes = w.bytes;
@@ -143,7 +141,7 @@ fn number(kind: u32, identifier: u32, remote: u32, data: &[u8]) -> u8 {
 
 // The data with the last byte left out.
 fn less(kind: u32, identifier: u32, data: &[u8]) -> u8 {
-    let n = std::num::wrapping_sub_usize(data.len(), 1);
+    let n = data.len().wrapping_sub(1);
     number(kind, identifier, 0, part(data, 0, n))
 }
 
@@ -159,10 +157,10 @@ fn more(kind: u32, identifier: u32, data: &[u8]) -> u8 {
 fn around(kind: u32, own: u32, data: &[u8]) -> [u8; 13] {
     [
         number(kind, own, 0, data),
-        number(kind, std::num::wrapping_sub_u32(own, HIGH), 0, data),
-        number(kind, std::num::wrapping_add_u32(own, 426), 0, data),
-        number(kind, std::num::wrapping_sub_u32(LOW + HIGH, own), 0, data),
-        number(kind, std::num::wrapping_add_u32(own, 1), 0, data),
+        number(kind, own.wrapping_sub(HIGH), 0, data),
+        number(kind, own.wrapping_add(426), 0, data),
+        number(kind, (LOW + HIGH).wrapping_sub(own), 0, data),
+        number(kind, own.wrapping_add(1), 0, data),
         number(kind, 2048, 0, data),
         less(kind, own, data),
         more(kind, own, data),
@@ -185,7 +183,7 @@ fn documented_as(n: usize) -> [u8; 13] {
 pub(crate) fn documented(r: Reader, data: &[u8]) -> Words {
     let got = around(r.a, r.b, data);
     let expected = documented_as(data.len());
-    if check::same(&got, &expected) {
+    if got == expected {
         return say(b" done");
     }
     add_bytes(say(b""), &got)
@@ -230,7 +228,7 @@ fn data_end(count: u8) -> usize {
 fn framed(f: &[u8; 12]) -> Words {
     let end = data_end(f[3]);
     let w = add_bytes(head(laws::number16(f[0], f[1]), f[2]), part(f, 4, end));
-    if check::same(part(f, end, 12), part(&[0; 12], end, 12)) {
+    if part(f, end, 12) == part(&[0; 12], end, 12) {
         return w;
     }
     add(w, b" and more")

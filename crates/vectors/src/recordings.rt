@@ -133,9 +133,9 @@ fn list_in(picture: &[u8], n: usize, stream: Stream) -> Words {
 fn just_listed(picture: &[u8], stream: Stream) -> Words {
     let mut room = [b'.'; ROOM];
     let n = list_into(picture, &mut room, ROOM, stream).end;
-    let less = list_in(picture, std::num::wrapping_sub_usize(n, 1), stream);
+    let less = list_in(picture, n.wrapping_sub(1), stream);
     let bytes = less.bytes;
-    if check::same(part(&bytes, 0, less.count), b" refused 13") {
+    if part(&bytes, 0, less.count) == b" refused 13".as_slice() {
         return list_in(picture, n, stream);
     }
     add(less, b" in a byte less")

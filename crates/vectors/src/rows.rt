@@ -4,7 +4,6 @@ use crate::answers::{
 };
 use crate::text::part;
 use crate::words::{ROOM, Reader};
-use laws::both;
 use questions::AddressAsked;
 use shape::{Answer, NOT_HEARD};
 
@@ -35,7 +34,7 @@ pub(crate) fn refusal(a: Answer) -> u16 {
 pub(crate) fn only(room: &[u8; ROOM], from: usize, filled: &[u8]) -> bool {
     let mut dots = [b'.'; ROOM];
     laws::copy_in(&mut dots, from, filled);
-    check::same(room, &dots)
+    *room == dots
 }
 
 // What was filled, by the letter of the statement: text, or bytes.
@@ -63,13 +62,7 @@ pub(crate) fn room_of(
 
 // Whether the entries of a row from `from` on are as they were.
 fn untouched_from(row: &[u16], from: usize) -> bool {
-    let mut all = true;
-    let mut i = from;
-    while i < row.len() {
-        all = both(all, row[i] == UNTOUCHED);
-        i += 1;
-    }
-    all
+    row.iter().skip(from).all(|entry| *entry == UNTOUCHED)
 }
 
 // The row of a name, into the first n entries.

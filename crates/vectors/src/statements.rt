@@ -5,7 +5,7 @@ use crate::text::{after, part, past, until, word};
 use crate::words::{Reader, take_all, unread};
 use crate::{frames, pictures, plans, recordings, rows};
 use laws::byte_at;
-use libc::STDOUT_FILENO;
+use std::io;
 
 #[derive(Drop)]
 pub struct Tally {
@@ -82,14 +82,12 @@ fn read_by(patterns: &[u8], at: usize, q: &[u8]) -> Reader {
 // A question as the first pattern reads it that reads all of it; where none does, its letter is 0.
 fn read(patterns: &[u8], q: &[u8]) -> Reader {
     let mut at = 0;
-    let mut tried: usize = 0;
-    while tried < MOST {
+    for _ in 0..MOST {
         let r = read_by(patterns, at, q);
         if r.at == after(0, q) {
             return r;
         }
         at = past(at, LINE);
-        tried += 1;
     }
     unread(0)
 }
@@ -104,94 +102,105 @@ fn answer(patterns: &[u8], q: &[u8], picture: &mut [u8]) -> Words {
 // Where a word stands in a line; past the end where it has none.
 fn find_word(line: &[u8], sought: &[u8]) -> usize {
     let mut at = 0;
-    let mut words: usize = 0;
-    while words < line.len() && at < line.len() {
+    for _ in 0..line.len() {
+        if at >= line.len() {
+            break;
+        }
         let w = word(line, at);
-        if check::same(w, sought) {
+        if w == sought {
             return at;
         }
         at = after(at, w);
-        words += 1;
     }
     at
 }
 
 // Whether there is an answer, and the line says the same.
 fn agrees(line: &[u8], is: usize, got: &[u8]) -> bool {
-    if got.len() == 0 {
+    if got.is_empty() {
         return false;
     }
     if is < line.len() {
-        return check::same(part(line, past(is, 2), line.len()), got);
+        return part(line, past(is, 2), line.len()) == got;
     }
-    check::same(got, b" done")
+    got == b" done".as_slice()
 }
 
-fn tell_difference(number: u64, line: &[u8], got: &[u8]) {
-    io::write_all(STDOUT_FILENO, b"line ");
-    io::print_decimal(STDOUT_FILENO, number);
-    io::write_all(STDOUT_FILENO, b": ");
-    io::write_all(STDOUT_FILENO, line);
-    io::write_all(STDOUT_FILENO, b"\n  it is");
-    io::write_all(STDOUT_FILENO, got);
-    if got.len() == 0 {
-        io::write_all(STDOUT_FILENO, b" no statement");
+fn tell_difference(rt: &impl Print, number: u64, line: &[u8], got: &[u8]) -> io::Result<()> {
+    print!(rt; "line {number}: ")?;
+    rt.write_all(line)?;
+    print!(rt; "\n  it is")?;
+    rt.write_all(got)?;
+    if got.is_empty() {
+        print!(rt; " no statement")?;
     }
-    io::write_all(STDOUT_FILENO, b"\n");
+    println!(rt)
 }
 
 // A statement: whether it agrees, and where it does not, that is told.
-fn holds(patterns: &[u8], line: &[u8], number: u64, picture: &mut [u8]) -> bool {
+fn holds(
+    rt: &impl Print,
+    patterns: &[u8],
+    line: &[u8],
+    number: u64,
+    picture: &mut [u8],
+) -> io::Result<bool> {
     let is = find_word(line, b"is");
-    let w = answer(
-        patterns,
-        part(line, 0, std::num::wrapping_sub_usize(is, 1)),
-        picture,
-    );
+    let w = answer(patterns, part(line, 0, is.wrapping_sub(1)), picture);
     let bytes = w.bytes;
     let got = part(&bytes, 0, w.count);
     if agrees(line, is, got) {
-        return true;
+        return Ok(true);
     }
-    tell_difference(number, line, got);
-    false
+    tell_difference(rt, number, line, got)?;
+    Ok(false)
 }
 
 // One line: a comment, nothing, or a statement. The counts never wrap: no text has so many lines.
-fn count(mut t: Tally, patterns: &[u8], line: &[u8], number: u64, picture: &mut [u8]) -> Tally {
-    if line.len() == 0 {
-        return t;
+fn count(
+    rt: &impl Print,
+    t: &mut Tally,
+    patterns: &[u8],
+    line: &[u8],
+    number: u64,
+    picture: &mut [u8],
+) -> io::Result<()> {
+    if line.is_empty() || byte_at(line, 0) == b'#' {
+        return Ok(());
     }
-    if byte_at(line, 0) == b'#' {
-        return t;
-    }
-    if holds(patterns, line, number, picture) {
-        t.agreed = std::num::wrapping_add_u64(t.agreed, 1);
+    if holds(rt, patterns, line, number, picture)? {
+        t.agreed = t.agreed.wrapping_add(1);
     } else {
-        t.differed = std::num::wrapping_add_u64(t.differed, 1);
+        t.differed = t.differed.wrapping_add(1);
     }
-    t
+    Ok(())
 }
 
 // All lines. Every line has a byte, the one that ends it, so that no text has more lines than bytes.
-fn run_lines(text: &[u8], patterns: &[u8], picture: &mut [u8]) -> Tally {
+fn run_lines(
+    rt: &impl Print,
+    text: &[u8],
+    patterns: &[u8],
+    picture: &mut [u8],
+) -> io::Result<Tally> {
     let mut t = Tally {
         agreed: 0,
         differed: 0,
     };
     let mut at = 0;
-    let mut number: usize = 0;
-    while number < text.len() && at < text.len() {
+    for number in 1..=text.len() {
+        if at >= text.len() {
+            break;
+        }
         let line = until(text, at, b'\n');
-        number += 1;
-        t = count(t, patterns, line, number as u64, picture);
+        count(rt, &mut t, patterns, line, number as u64, picture)?;
         at = after(at, line);
     }
-    t
+    Ok(t)
 }
 
 // The lines of a text, by the patterns (words.rt) of what is asked, each with its letter.
-pub(crate) fn run(text: &[u8], picture: &mut [u8]) -> Tally {
+pub(crate) fn run(rt: &impl Print, text: &[u8], picture: &mut [u8]) -> io::Result<Tally> {
     let patterns = b"read T F B                    r
 read type H F B               r
 each byte after T F B         E
@@ -224,18 +233,16 @@ put at D of D gap G F B       p
 recording B                   e
 listing B                     P
 ";
-    run_lines(text, patterns, picture)
+    run_lines(rt, text, patterns, picture)
 }
 
 // The counts. A text that fills its room may be longer than that, and what is beyond is not read: that is told.
-pub(crate) fn tell(t: Tally, whole: bool) {
+pub(crate) fn tell(rt: &impl Print, t: Tally, whole: bool) -> io::Result<()> {
     if !whole {
-        io::write_all(STDOUT_FILENO, b"the text is too long\n");
+        println!(rt; "the text is too long")?;
     }
     if t.differed != 0 {
-        io::print_decimal(STDOUT_FILENO, t.differed);
-        io::write_all(STDOUT_FILENO, b" statements differ, ");
+        print!(rt; "{} statements differ, ", t.differed)?;
     }
-    io::print_decimal(STDOUT_FILENO, t.agreed);
-    io::write_all(STDOUT_FILENO, b" statements agree\n");
+    println!(rt; "{} statements agree", t.agreed)
 }

@@ -19,7 +19,7 @@ pub(crate) fn part(s: &[u8], from: usize, to: usize) -> &[u8] {
 
 // The place `n` bytes on. It wraps where no text reaches.
 pub(crate) fn past(at: usize, n: usize) -> usize {
-    std::num::wrapping_add_usize(at, n)
+    at.wrapping_add(n)
 }
 
 // The first place from `at` on that has the byte `stop`, or else the end.
@@ -72,10 +72,8 @@ fn with_digit(n: u64, base: u64, d: u64) -> u64 {
 
 fn digits(w: &[u8], base: u64) -> u64 {
     let mut n = 0;
-    let mut i = 0;
-    while i < w.len() {
-        n = with_digit(n, base, digit(w[i]));
-        i += 1;
+    for b in w {
+        n = with_digit(n, base, digit(*b));
     }
     n
 }
@@ -92,14 +90,15 @@ pub(crate) fn number(w: &[u8], base: u64) -> u64 {
 // number 0.
 pub(crate) fn named(list: &[u8], w: &[u8]) -> u64 {
     let mut at = 0;
-    let mut n = 0;
-    while n < ITEMS && at < list.len() {
+    for n in 0..ITEMS {
+        if at >= list.len() {
+            break;
+        }
         let item = until(list, at, b'/');
-        if check::same(item, w) {
+        if item == w {
             return n;
         }
         at = after(at, item);
-        n += 1;
     }
     NO_NUMBER
 }
@@ -107,10 +106,8 @@ pub(crate) fn named(list: &[u8], w: &[u8]) -> u64 {
 // The item of a number, nothing where the list has none.
 pub(crate) fn item(list: &[u8], number: u16) -> &[u8] {
     let mut at = 0;
-    let mut n = 0;
-    while n < number {
+    for _ in 0..number {
         at = after(at, until(list, at, b'/'));
-        n += 1;
     }
     until(list, at, b'/')
 }

@@ -14,6 +14,9 @@ pub const FLAGS: [u8; 18] = *b"data/remote/flag2/";
 
 const LOWEST: u64 = 3;
 
+// The most words of a pattern.
+const WORDS: usize = 10;
+
 // The most bytes that a question has.
 pub const ROOM: usize = 128;
 
@@ -21,7 +24,7 @@ pub const ROOM: usize = 128;
 const NOWHERE: usize = usize::MAX;
 
 // The letter of the pattern; where the next word begins; how many numbers the question has so far, and these, in their order; its gap; its bytes, and how many.
-#[derive(Drop)]
+#[derive(Clone, Copy)]
 pub struct Reader {
     pub letter: u8,
     pub at: usize,
@@ -53,7 +56,7 @@ fn with_number(mut r: Reader, n: u64, next: usize) -> Reader {
     }
     r.at = next;
     let i = r.found;
-    r.found = std::num::wrapping_add_u32(i, 1);
+    r.found = i.wrapping_add(1);
     match i {
         0 => r.a = n as u32,
         1 => r.b = n as u32,
@@ -84,7 +87,7 @@ fn take_flag(q: &[u8], r: Reader) -> Reader {
 
 // The identifier that two words are: its number, or address and priority.
 fn identified(w: &[u8], v: &[u8]) -> u64 {
-    if check::same(w, b"identifier") {
+    if w == b"identifier".as_slice() {
         return number(v, 10);
     }
     identifier(number(w, 16), named(&PRIORITIES, v))
@@ -142,17 +145,18 @@ fn take_item(q: &[u8], r: Reader) -> Reader {
 // No question that can be read has more items than there is room for bytes.
 fn take_list(q: &[u8], first: Reader) -> Reader {
     let mut r = first;
-    let mut items: usize = 0;
-    while items < ROOM && r.at < q.len() {
+    for _ in 0..ROOM {
+        if r.at >= q.len() {
+            break;
+        }
         r = take_item(q, r);
-        items += 1;
     }
     r
 }
 
 fn take_itself(mut r: Reader, w: &[u8], p: &[u8]) -> Reader {
     r.at = after(r.at, w);
-    if !check::same(w, p) {
+    if w != p {
         r.at = NOWHERE;
     }
     r
@@ -201,17 +205,18 @@ pub(crate) fn unread(letter: u8) -> Reader {
     }
 }
 
-// The words of a question by a pattern, which has at most ten, and spaces after them. They are read where the next would begin just past
+// The words of a question by a pattern, with spaces after them. They are read where the next would begin just past
 // the question's end.
 pub(crate) fn take_all(q: &[u8], pattern: &[u8], letter: u8) -> Reader {
     let mut r = unread(letter);
     let mut at = 0;
-    let mut words: usize = 0;
-    while words < 10 && byte_at(pattern, at) > b' ' {
+    for _ in 0..WORDS {
+        if byte_at(pattern, at) <= b' ' {
+            break;
+        }
         let p = word(pattern, at);
         r = take(q, p, r);
         at = after(at, p);
-        words += 1;
     }
     r
 }
