@@ -8,15 +8,13 @@ ghost use Rattle.results.specs.Words.{outcome_word};
 
 use results::outcome_word;
 
-#[unsafe(no_mangle)]
-pub extern "C" fn velbus_bench_size() -> u32
+pub fn velbus_bench_size() -> u32
     ensures { result ≡ bench_size }
 {
     bench::bench_size()
 }
 
-#[unsafe(no_mangle)]
-pub extern "C" fn velbus_bench_new(
+pub fn velbus_bench_new(
     bench: &mut [u8],
     address: u32,
     cells: &[u8],
@@ -30,8 +28,7 @@ pub extern "C" fn velbus_bench_new(
     outcome_word(bench::bench_new(bench, address, cells, version, year, week))
 }
 
-#[unsafe(no_mangle)]
-pub extern "C" fn velbus_bench_take(
+pub fn velbus_bench_take(
     bench: &mut [u8],
     identifier: u32,
     remote: u32,

@@ -24,14 +24,7 @@ fn lay_message(message: &mut [u8], a: Address, m: Message) -> u32
     room_word(room, MESSAGE_SIZE)
 }
 
-#[unsafe(no_mangle)]
-pub extern "C" fn velbus_read(
-    kind: u32,
-    identifier: u32,
-    remote: u32,
-    data: &[u8],
-    message: &mut [u8],
-) -> u32
+pub fn velbus_read(kind: u32, identifier: u32, remote: u32, data: &[u8], message: &mut [u8]) -> u32
     ensures value { result ≡ read_word (reading kind identifier remote «data».now) (length message.old) }
     ensures message_after { message.new ≡ read_into (reading kind identifier remote «data».now) message.old }
 {
@@ -71,8 +64,7 @@ fn write_held(kind: u32, held: Held, out: &mut [u8]) -> u32
     }
 }
 
-#[unsafe(no_mangle)]
-pub extern "C" fn velbus_write(kind: u32, message: &[u8], out: &mut [u8]) -> u32
+pub fn velbus_write(kind: u32, message: &[u8], out: &mut [u8]) -> u32
     ensures value { result ≡ write_word kind message.now (length out.old) }
     ensures out_after { out.new ≡ write_into kind message.now out.old }
 {

@@ -15,8 +15,7 @@ fn put_word(put: Put) -> u32
     }
 }
 
-#[unsafe(no_mangle)]
-pub extern "C" fn velbus_put_record(
+pub fn velbus_put_record(
     buffer: &mut [u8],
     at: usize,
     gap: u64,
