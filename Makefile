@@ -16,7 +16,7 @@ version = $(shell sed -n 's/^.define VELBUS_VERSION "\(.*\)".*/\1/p' include/vel
 all: $(archive) $(sheet)
 
 # one script makes both
-$(archive) $(sheet) &: $(shell find crates -name '*.rt' -o -name '*.antt') crates.txt include/velbus.h host/sheet.c host/build tools/shared.sh
+$(archive) $(sheet) &: $(shell find crates -name out -prune -o \( -name '*.rt' -o -name '*.antt' \) -print) crates.txt include/velbus.h host/sheet.c host/build tools/shared.sh
 	host/build
 
 install: all

@@ -4,7 +4,7 @@
 Instructions are counted by the emulator, which writes a line for each one executed; they are the same on every machine and at any load.
 A record's or a call's share is the growth from a smaller number of them to a larger one, so that starting and ending drop out.
 
-usage: measure.py FOLDER [WORDS THAT RUN AN X86-64 PROGRAM]
+usage: measure.py FOLDER LISTING [WORDS THAT RUN AN X86-64 PROGRAM]
 """
 import functools
 import os
@@ -16,8 +16,8 @@ import sys
 import tempfile
 import time
 
-FOLDER, RUN = pathlib.Path(sys.argv[1]), sys.argv[2:]
-LISTINGS = [str(FOLDER.parent / "bin" / "listing"), str(FOLDER / "plain_listing")]
+FOLDER, LISTING, RUN = pathlib.Path(sys.argv[1]), sys.argv[2], sys.argv[3:]
+LISTINGS = [LISTING, str(FOLDER / "plain_listing")]
 CALLS = [str(FOLDER / "calls"), str(FOLDER / "plain_calls")]
 NAMES = ("classroom", "dump", "random")
 MEMORIES = ("unheard", "half", "told")

@@ -3,10 +3,13 @@
 #   strict     their warning flags
 #   run        what runs an x86-64 program on this machine; empty where the machine does it by itself
 #   emulator   the files that run needs
-# and has `need`, which sees to packages, `built`, which has the toolchain bring a file up to date, and `block`, which takes an example out of a page.
+#   archive    the library for C
+# and has `need`, which sees to packages, `built`, which has the toolchain bring a program up to date, `built_archive`, which does so for the archive,
+# `program`, which says where a program is, and `block`, which takes an example out of a page.
 
 me=$0
 strict="-Wall -Wextra -Wpedantic -Werror"
+archive=target/staticlib/libvelbus.a
 if [ "$(uname -m)" = x86_64 ]; then
     cc=gcc
     cxx=g++
@@ -49,23 +52,44 @@ need() {
     fi
 }
 
-# built FILE WORDS...: brings a file of target/ up to date by `rt WORDS...`. rt decides what has changed; if it is at work for some
-# seconds, one line says so. Where there is no rt, a file that was built stays in use, and that is told.
+# program CRATE: where the toolchain leaves a program.
+program() { echo "crates/$1/out/$1"; }
+
+# built CRATE...: brings programs up to date. `rt run` proves and builds one where it has changed, and runs it, here with no input.
 built() {
-    local file=$1 said status=0 notice
-    shift
+    local crate
+    for crate; do
+        fresh "$(program "$crate")" "$crate" run
+    done
+}
+
+# built_archive: brings the archive up to date.
+built_archive() {
+    fresh crates/velbus_c/out/libvelbus_c.a velbus_c lib
+    mkdir -p "${archive%/*}"
+    cp crates/velbus_c/out/libvelbus_c.a "$archive"
+}
+
+# fresh FILE CRATE WORD: brings a crate's file up to date by `rt WORD`. rt decides what has changed; if it is at work for some seconds, one line says
+# so. Where there is no rt, a file that was built stays in use, and that is told. So does a program after the gate, without a word: where
+# gate_passed is set, `rt ci` has just proved and built every program.
+fresh() {
+    local file=$1 crate=$2 word=$3 said status=0 notice
     if ! command -v rt > /dev/null; then
         [ -e "$file" ] || { echo "$me: rt, the Rattle toolchain, is not on the path, and $file is not built" >&2; exit 1; }
         echo "$me: rt, the Rattle toolchain, is not on the path: $file is used as it was built" >&2
         return
     fi
-    (sleep 3 > /dev/null 2>&1 && echo "$me: rt $* proves and builds what has changed; from nothing it takes some minutes" >&2) &
+    if [ -n "${gate_passed:-}" ] && [ "$word" = run ] && [ -e "$file" ]; then
+        return
+    fi
+    (sleep 3 > /dev/null 2>&1 && echo "$me: rt $word proves and builds what has changed of $crate; from nothing it takes some minutes" >&2) &
     notice=$!
     disown
-    said=$(rt "$@" < /dev/null 2>&1) || status=$?
+    said=$(cd "crates/$crate" && rt "$word" < /dev/null 2>&1) || status=$?
     kill "$notice" 2> /dev/null || :
     if [ "$status" -eq 0 ] && [ ! -e "$file" ]; then
-        echo "$me: rt has nothing to prove, yet $file is gone: remove target/, and begin again" >&2
+        echo "$me: rt has nothing to prove, yet $file is gone: remove crates/$crate/out, and begin again" >&2
         exit 1
     elif [ "$status" -ne 0 ]; then
         printf '%s\n' "$said" >&2
