@@ -5,7 +5,6 @@ between two names, a field of a record without a dash. Functions of src/, export
     tools/respell.py            respells crates/ (specs, proofs, clauses, edits) and the names in README, CONTRIBUTING and docs/
     tools/respell.py --list     prints old and new name, and changes nothing
 """
-import collections
 import glob
 import re
 import sys
