@@ -1,4 +1,4 @@
--- Demand 2: frames are read and written as the module documents define them; read_then_written is the same frame; every legal message written reads
+-- Demand 2: frames are read and written as the module documents define them; read-then-written is the same frame; every legal message written reads
 -- back as itself; an accepted frame has its defined effect on the addressed module and on no other. The proof is proofs/Demand2.antt.
 use Rattle.std.specs.Prelude.{ℕ, ◌<◌, ◌≡◌}
 use Rattle.frame.specs.Bytes.{data_bytes}
@@ -39,7 +39,7 @@ pub record Demand2 : Type 0 where
   pub one_frame : OneFrame
   -- the byte that a 9 comes with, in reading and in writing
   pub first_beyond_repair : FirstBeyondRepair
-  -- read_then_written is the same frame, for a C caller too
+  -- read-then-written is the same frame, for a C caller too
   pub read_then_written : ReadThenWritten
   pub read_then_written_again : ReadThenWrittenAgain
   -- every legal message written reads back as itself, and so it does from a C caller's buffer

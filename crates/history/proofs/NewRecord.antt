@@ -19,7 +19,7 @@ use Rattle.history.specs.Refinement.{cell_at, module_at}
 use Rattle.history.proofs.Stores.{Within, within-then, within_wider, within-set, within-blanked, blanked-cell}
 use Rattle.history.proofs.Told.{within-told, told_module}
 
-module _ (b : List ℕ) (s a k : ℕ) (whole : size ≤ length b) (Slot-ok : s < room) where
+module _ (b : List ℕ) (s a k : ℕ) (whole : size ≤ length b) (slot-ok : s < room) where
   abbrev headed : List ℕ
   headed = set (set b (record_at s) a) (kind_at s) k
 
@@ -66,12 +66,12 @@ module _ (b : List ℕ) (s a k : ℕ) (whole : size ≤ length b) (Slot-ok : s <
   module _ (r : Run) (fit : end_of r ≤ places) where
     pub within_new : Within (record_at s) (record_at s + record_size) b (new_record b s a k r)
     unfolding new_record
-    within_new = within-then within-blank (within_wider (omega arith) (omega arith) (within-told (blank_record b s a k) s r whole_blank Slot-ok fit))
+    within_new = within-then within-blank (within_wider (omega arith) (omega arith) (within-told (blank_record b s a k) s r whole_blank slot-ok fit))
 
     pub new_module : module_at (new_record b s a k r) s ≡ new a k r
     unfolding new_record new told_by
-    new_module = told_module (blank_record b s a k) s r whole_blank Slot-ok fit ∙ ap (told_by r) blank_module
+    new_module = told_module (blank_record b s a k) s r whole_blank slot-ok fit ∙ ap (told_by r) blank_module
 
     pub new-address : get_or (new_record b s a k r) (record_at s) 0 ≡ a
     unfolding new_record
-    new-address = (within-told (blank_record b s a k) s r whole_blank Slot-ok fit).outside (record_at s) (λ p q. omega arith) ∙ blank-address
+    new-address = (within-told (blank_record b s a k) s r whole_blank slot-ok fit).outside (record_at s) (λ p q. omega arith) ∙ blank-address

@@ -43,7 +43,7 @@ olds-tab l i (suc n) =
     (tab_ext n (λ j. get_or l (suc i + j) none) (λ j. get_or l (i + suc j) none) (λ j h. let e : suc i + j ≡ i + suc j = omega arith in rw e)))
 
 -- a run written into a record
-module _ (c : List ℕ) (s : ℕ) (r : Run) (whole : size ≤ length c) (Slot-ok : s < room) (fit : end_of r ≤ places) where
+module _ (c : List ℕ) (s : ℕ) (r : Run) (whole : size ≤ length c) (slot-ok : s < room) (fit : end_of r ≤ places) where
   abbrev told : List ℕ
   told = written c (place_at s r.start) r.says
 
@@ -60,7 +60,7 @@ module _ (c : List ℕ) (s : ℕ) (r : Run) (whole : size ≤ length c) (Slot-ok
       )
 
 -- eight places kept in the next entry
-module _ (b : List ℕ) (s start : ℕ) (good : Good b) (Slot-ok : s < room) (begins : start < places) where
+module _ (b : List ℕ) (s start : ℕ) (good : Good b) (slot-ok : s < room) (begins : start < places) where
   abbrev e : ℕ
   e = next_of b
 
@@ -116,17 +116,17 @@ module _ (b : List ℕ) (s start : ℕ) (good : Good b) (Slot-ok : s < room) (be
   saved_module = module_apart within-saved s (λ o p q m n. omega arith)
 
 -- the record alone changed after it
-module _ (b : List ℕ) (s : ℕ) (r : Run) (good : Good b) (Slot-ok : s < room) (begins : r.start < places) (fit : end_of r ≤ places) where
+module _ (b : List ℕ) (s : ℕ) (r : Run) (good : Good b) (slot-ok : s < room) (begins : r.start < places) (fit : end_of r ≤ places) where
   pub does_told : Does b (written (saved b s r.start) (place_at s r.start) r.says) (wrote s r.start (olds (module_at b s).places r.start))
       (set (state_of b).modules s (told_by r (module_at b s)))
   does_told =
-      let d = does_saved b s r.start good Slot-ok begins in
-      let w = within-told (saved b s r.start) s r d.good.whole Slot-ok fit in
+      let d = does_saved b s r.start good slot-ok begins in
+      let w = within-told (saved b s r.start) s r d.good.whole slot-ok fit in
       record {
         good = good_within w (λ p q. omega arith) (λ a l p q. omega arith) (λ j l p q. omega arith) d.good;
         logs = logs_still w (λ p q. omega arith) (omega arith) d.logs;
         modules_are =
             record-changed s (told_by r (module_at b s)) (within_wider (omega arith) (omega arith) w)
-            (λ l. told_module (saved b s r.start) s r d.good.whole Slot-ok fit ∙ ap (told_by r) (saved_module b s r.start good Slot-ok begins))
+            (λ l. told_module (saved b s r.start) s r d.good.whole slot-ok fit ∙ ap (told_by r) (saved_module b s r.start good slot-ok begins))
             ∙ ap (λ (ms : List Module). set ms s (told_by r (module_at b s))) d.modules_are;
       }

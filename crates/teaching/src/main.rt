@@ -264,14 +264,16 @@ fn read_full<R: Read>(input: &mut R, buf: &mut [u8]) -> io::Result<usize>
 
 // The lesson on the input. One that could not be read to its end, or is too long, is told, and nothing is done of it.
 fn teach<R: Read>(rt: &(impl Print + Eprint), input: &mut R, bench: &mut [u8]) -> io::Result<()> {
-    let mut lesson = [0u8; LESSON + 1];
+    let mut lesson = [0u8; LESSON];
+    let mut more = [0u8; 1];
     let Ok(n) = read_full(input, &mut lesson) else {
         return eprintln!(rt; "bench: the lesson could not be read to its end");
     };
-    if n > LESSON {
-        return eprintln!(rt; "bench: the lesson has more than {LESSON} bytes");
+    match input.read(&mut more) {
+        Ok(0) => all_records(rt, bench, &lesson[..n]),
+        Ok(_) => eprintln!(rt; "bench: the lesson has more than {LESSON} bytes"),
+        Err(_) => eprintln!(rt; "bench: the lesson could not be read to its end"),
     }
-    all_records(rt, bench, &lesson[..n])
 }
 
 // The bench, made of what the arguments name.
