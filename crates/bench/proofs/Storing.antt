@@ -1,5 +1,6 @@
 -- Steps of the code, as the definitions take them: values stored as a run of places that tells them, LEDs one by one, replies one after the other, a bench laid
 -- out part by part. Assumes nothing.
+use Rattle.std.specs.Prelude.{Ok, Err}
 use Prim.Native.Nat.{ℕ, zero, suc, ◌+◌, ◌-◌, ◌*◌, ◌/◌, ◌%◌, ◌≤◌, ◌<◌}
 use native.Mathlib.Omega.{arith}
 use mathlib.Core.Path.{◌≡◌, refl, sym, ap, ◌∙◌}
@@ -8,9 +9,7 @@ use lib.ListN.{length, set, take, drop, replicate, length-set, length-replicate}
 use lib.Seq.{sets, length-take-le}
 use Rattle.laws.proofs.Stores.{sets_append, sets_front}
 use Rattle.laws.specs.Tab.{tab}
-use Rattle.codec.specs.Writing.{writing}
-use Rattle.codec.specs.declared.writer.Writing.{Writing}
-use Rattle.codec.specs.declared.writer.Writing.TheVariants.{Written, Refused}
+use Rattle.codec.specs.Writing.{writing, Writing}
 use Rattle.kinds.specs.Types.{vmb8ir}
 use Rattle.frame.specs.declared.messages.Command.{Command}
 use Rattle.places.specs.Runs.{silent, tells, led_if, some_leds}
@@ -38,8 +37,8 @@ eight b b₁ b₂ b₃ b₄ b₅ b₆ b₇ b₈ mask state e₁ e₂ e₃ e₄ e
 
 -- every reply has twelve bytes
 twelve : (w : Writing) → length (written_bytes w) ≡ 12
-twelve (Written f) = refl
-twelve (Refused n) = refl
+twelve (Ok f) = refl
+twelve (Err n) = refl
 
 pub twelve_long : (a : ℕ) (m : Command) → length (reply_bytes a m) ≡ 12
 unfolding reply_bytes

@@ -2,7 +2,6 @@
 ghost use Rattle.std.specs.Prelude.{◌≡◌, ◌≤◌, length};
 ghost use Rattle.std.proofs.lemmas.List.Edits.{sets};
 
-use laws::byte_at;
 use shape::put_at;
 
 // All of `source`, from `at` on.
@@ -11,9 +10,7 @@ pub(crate) fn put_bytes(s: &mut [u8], at: u32, source: &[u8])
     ensures { s.new ≡ sets s.old at source.now }
 {
     let from = at as usize;
-    let mut i: usize = 0;
-    while i < source.len() {
-        put_at(s, from + i, byte_at(source, i));
-        i += 1;
+    for (i, byte) in source.iter().enumerate() {
+        put_at(s, from + i, *byte);
     }
 }

@@ -1,15 +1,16 @@
 // A new bench.
 ghost use Rattle.std.specs.Prelude.{◌≡◌, ◌≤◌, length};
+ghost use Rattle.laws.specs.Codes.{coded};
 ghost use Rattle.std.proofs.lemmas.List.Edits.{sets};
 ghost use Rattle.replies.specs.Bench.{bench_size};
 ghost use Rattle.bench.specs.Making.{named_cells, new_bench, making};
 
 use crate::bytes::put_bytes;
 use frame::Location;
-use laws::{BAD_FIELD, TOO_SHORT, TYPE_NOT_KNOWN};
+use laws::Refusal;
 use places::{PLACES, WEEK, YEAR, cell_place};
 use replies::{ADDRESS_AT, KIND, VERSION_AT};
-use shape::{ADDRESSES, Outcome, put_at};
+use shape::{ADDRESSES, put_at};
 
 pub const SIZE: usize = PLACES + 2;
 
@@ -17,7 +18,7 @@ pub const SIZE: usize = PLACES + 2;
 const NAMED_CELLS: usize = 256;
 
 // 9 with byte 1, for address 0: no later byte could repair a type frame from there.
-const NO_ADDRESS: u16 = BAD_FIELD + 256;
+const NO_ADDRESS: Refusal = Refusal::BadField(1);
 
 pub fn bench_size() -> u32
     ensures { result ≡ bench_size }
@@ -46,22 +47,22 @@ pub fn bench_new(
     version: u8,
     year: u8,
     week: u8,
-) -> Outcome
-    ensures value { result ≡ (making bench.old address cells.now version year week).outcome }
+) -> Result<(), Refusal>
+    ensures value { coded result ≡ (making bench.old address cells.now version year week).outcome }
     ensures bench_after { bench.new ≡ (making bench.old address cells.now version year week).buffer }
 {
     if bench.len() < SIZE {
-        return Outcome::Refused(TOO_SHORT);
+        return Err(Refusal::TooShort);
     }
     if cells.len() < NAMED_CELLS {
-        return Outcome::Refused(TOO_SHORT);
+        return Err(Refusal::TooShort);
     }
     if address >= ADDRESSES {
-        return Outcome::Refused(TYPE_NOT_KNOWN);
+        return Err(Refusal::TypeNotKnown);
     }
     if address == 0 {
-        return Outcome::Refused(NO_ADDRESS);
+        return Err(NO_ADDRESS);
     }
     lay(bench, address as u8, cells, version, year, week);
-    Outcome::Done
+    Ok(())
 }

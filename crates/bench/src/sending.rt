@@ -1,16 +1,17 @@
 // The replies to a command, written as frames of twelve bytes.
 ghost use Rattle.std.specs.Prelude.{◌≡◌, List, [], ◌∷◌, ℕ, ◌≤◌, length};
 ghost use Rattle.std.proofs.lemmas.List.Edits.{sets};
+ghost use Rattle.laws.specs.Codes.{coded};
 ghost use Rattle.replies.specs.Bench.{own_address};
 ghost use Rattle.replies.specs.Replies.{block, blocks, dump, status, type_told, answers, replies};
 ghost use Rattle.bench.specs.Sending.{written_bytes, reply_bytes, all_bytes};
 ghost use Rattle.frame.specs.declared.messages.Command.TheVariants.{CellAsked, NameAsked};
 
 use crate::bytes::put_bytes;
-use codec::{FRAME_SIZE, Writing, frame_bytes};
+use codec::{FRAME_SIZE, Frame, frame_bytes};
 use frame::{Address, Command, Location, Message};
 use kinds::VMB8IR;
-use laws::{byte_at, wide16};
+use laws::{Refusal, byte_at, wide16};
 use replies::{
     ADDRESS_AT, block_told, cell_at, dump_block, name_cell, name_one, name_three, name_two,
     status_told, type_told,
@@ -22,12 +23,12 @@ const BLOCKS: u8 = 64;
 const DUMP_REPLIES: u16 = BLOCKS as u16;
 
 // A frame's twelve bytes. The writer refuses no reply to a command that the bench takes.
-fn written_bytes(w: Writing) -> [u8; 12]
-    ensures { result ≡ written_bytes w }
+fn written_bytes(written: Result<Frame, Refusal>) -> [u8; 12]
+    ensures { result ≡ written_bytes (coded written) }
 {
-    match w {
-        Writing::Written(f) => frame_bytes(f),
-        Writing::Refused(_) => [0; 12],
+    match written {
+        Ok(f) => frame_bytes(f),
+        Err(_) => [0; 12],
     }
 }
 
@@ -66,11 +67,9 @@ fn put_name(bench: &[u8], a: u8, n: u8, buffer: &mut [u8])
 fn put_dump(bench: &[u8], a: u8, buffer: &mut [u8])
     ensures { buffer.new ≡ sets buffer.old 0 (all_bytes a (dump bench.now 0 blocks)) }
 {
-    let mut i: u8 = 0;
-    while i < BLOCKS {
+    for i in 0..BLOCKS {
         let m = dump_block(bench, i);
         put_reply(buffer, FRAME_SIZE * wide16(i), a, m);
-        i += 1;
     }
 }
 

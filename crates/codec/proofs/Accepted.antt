@@ -1,5 +1,6 @@
 -- Some frame of every row is accepted: a sample of each, judged by one test that antt computes over the tables.
 -- Assumes nothing.
+use Rattle.std.specs.Prelude.{Ok, Err}
 use Prim.Native.Nat.{ℕ}
 use mathlib.Core.Path.{◌≡◌, refl, ◌∙◌}
 use mathlib.Core.List.{List, [], ◌∷◌, ◌++◌}
@@ -16,7 +17,6 @@ use Rattle.fields.specs.Fields.{buttons_allowed, asked_allowed}
 use Rattle.judging.specs.Reading.{command_refusal, command_read, request_read}
 use Rattle.codec.specs.Statements.{EveryRow, EveryRequest}
 use Rattle.frame.specs.declared.messages.Message.TheVariants.{Tells}
-use Rattle.frame.specs.declared.messages.Reading.TheVariants.{Read, Refused}
 use Rattle.kinds.specs.declared.types.Row.{Row}
 use Rattle.kinds.proofs.Listed.{of-listed, listed_module, module_handed, row_known, row_priority}
 use Rattle.codec.proofs.Shapes.{padded}
@@ -59,7 +59,7 @@ every_row kind c a hl ha =
       begins = eqb-true (byte 1 s) c b.0;
       read =
           reads_made kind row.1 a s (module_handed kind (listed_module kind c hl)) (row_known kind c) (row_priority kind c) ha (leb-true 1 (length s) l.0) (leb-true (length s) 8 l.1)
-          ∙ unrefused_is Refused (command_refusal kind row.1 (data_of s) (decode (padded s))) (Read a (Tells (decode (padded s)))) z;
+          ∙ unrefused_is Err (command_refusal kind row.1 (data_of s) (decode (padded s))) (Ok (a, Tells (decode (padded s)))) z;
     }
 
 pub every_request : EveryRequest

@@ -1,5 +1,6 @@
 -- Every frame of every type's list is read as the message that the documents define.
 -- Assumes nothing.
+use Rattle.std.specs.Prelude.{Ok, Err}
 use Prim.Native.Nat.{ℕ, ◌+◌, ◌*◌, ◌≤◌, ◌<◌}
 use native.Mathlib.Omega.{arith}
 use mathlib.Core.Path.{◌≡◌, refl, sym, ap, subst, ◌∙◌}
@@ -24,7 +25,6 @@ use Rattle.frame.specs.declared.messages.Time.TheVariants.{DipSwitch, Permanentl
 use Rattle.frame.specs.declared.messages.Command.{Command}
 use Rattle.frame.specs.declared.messages.Command.TheVariants.{TypeLong, TypeShort}
 use Rattle.frame.specs.declared.messages.Message.TheVariants.{Tells}
-use Rattle.frame.specs.declared.messages.Reading.TheVariants.{Read, Refused}
 use Rattle.kinds.proofs.Listed.{listed_module, module_handed, row-size, row_known, row_priority}
 use Rattle.frame.proofs.Commands.{type_shaped, read_commands, listed-read}
 use Rattle.judging.proofs.Numbers.{behind}
@@ -139,11 +139,11 @@ module _ (kind : ℕ) (a : Address) (s : List ℕ) (ha : a.0 < 256) (small : All
       ∙ ap (λ (k : ℕ). row_refusal k p d m) e
       ∙ rw (r.listed, eq-eqb (length s) (row_for kind c).0 r.sized, eq-eqb p p refl)
 
-  pub made : reading kind (identifier_of p a) 0 s ≡ unless_refused Refused (field_refusal (fault kind m)) (Read a (Tells m))
+  pub made : reading kind (identifier_of p a) 0 s ≡ unless_refused Err (field_refusal (fault kind m)) (Ok (a, Tells m))
   unfolding command_read
   made =
       reads_made kind p a s (module_handed kind (listed_module kind c r.listed)) (row_known kind c) (row_priority kind c) ha some short
-      ∙ ap (λ (n : ℕ). unless_refused Refused n (Read a (Tells m))) judged
+      ∙ ap (λ (n : ℕ). unless_refused Err n (Ok (a, Tells m))) judged
 
   read_as_lem : ReadAs kind c a s
   read_as_lem = record {

@@ -1,5 +1,5 @@
 -- What is promised of frames beyond each function's own contract. The proofs are in proofs/RoundTrip.antt and proofs/Accepted.antt.
-use Rattle.std.specs.Prelude.{ℕ, ◌<◌, ◌≡◌, List, [], true, length}
+use Rattle.std.specs.Prelude.{ℕ, ◌<◌, ◌≡◌, List, [], true, length, Ok, Err}
 use Rattle.laws.specs.Limits.{AllBytes}
 use Rattle.laws.specs.Refusals.{bad_field, code_at}
 use Rattle.laws.specs.Tests.{among}
@@ -15,14 +15,12 @@ use Rattle.frame.specs.declared.identifiers.Address.{Address}
 use Rattle.frame.specs.declared.messages.Command.{Command}
 use Rattle.frame.specs.declared.messages.Message.{Message}
 use Rattle.frame.specs.declared.messages.Message.TheVariants.{TypeRequest, Tells}
-use Rattle.frame.specs.declared.messages.Reading.TheVariants.{Read, Refused}
 use Rattle.codec.specs.declared.writer.Frame.{Frame}
-use Rattle.codec.specs.declared.writer.Writing.TheVariants.{Written}
 
 -- the writer gives just this frame
 pub record Gives (kind : ℕ) (a : Address) (m : Message) (identifier remote : ℕ) (s : List ℕ) : Type 0 where
   pub frame : Frame
-  pub given : writing kind a m ≡ Written frame
+  pub given : writing kind a m ≡ Ok frame
   pub same_identifier : frame.identifier ≡ identifier
   pub same_remote : frame.remote ≡ remote
   pub same_data : data_bytes frame.bytes ≡ s
@@ -32,7 +30,7 @@ abbrev pub ReadThenWritten : Type 0
 ReadThenWritten =
     (kind identifier remote : ℕ) (s : List ℕ) (a : Address) (m : Message) →
     AllBytes s →
-    reading kind identifier remote s ≡ Read a m →
+    reading kind identifier remote s ≡ Ok (a, m) →
     Gives kind a m identifier remote s
 
 -- a message that is written reads back as itself, under the same type
@@ -40,8 +38,8 @@ abbrev pub WrittenThenRead : Type 0
 WrittenThenRead =
     (kind : ℕ) (a : Address) (m : Message) (f : Frame) →
     a.0 < 256 →
-    writing kind a m ≡ Written f →
-    reading kind f.identifier f.remote (data_bytes f.bytes) ≡ Read a m
+    writing kind a m ≡ Ok f →
+    reading kind f.identifier f.remote (data_bytes f.bytes) ≡ Ok (a, m)
 
 -- two frames that are read as the same message of the same address are one frame
 abbrev pub OneFrame : Type 0
@@ -49,8 +47,8 @@ OneFrame =
     (kind i remote j other : ℕ) (s t : List ℕ) (a : Address) (m : Message) →
     AllBytes s →
     AllBytes t →
-    reading kind i remote s ≡ Read a m →
-    reading kind j other t ≡ Read a m →
+    reading kind i remote s ≡ Ok (a, m) →
+    reading kind j other t ≡ Ok (a, m) →
     (i ≡ j) × (remote ≡ other) × (s ≡ t)
 
 -- the data of a frame in a type's list: the command, so many bytes, and in H'FF' the type itself
@@ -64,8 +62,8 @@ pub record OfRow (kind c : ℕ) (s : List ℕ) : Type 0 where
 pub record ReadAs (kind c : ℕ) (a : Address) (s : List ℕ) : Type 0 where
   pub says : Command
   pub documented : Documented s says
-  pub read : fault kind says ≡ 0 → reading kind (identifier_of (row_for kind c).1 a) 0 s ≡ Read a (Tells says)
-  pub refused : (fault kind says ≡ 0 → ⊥) → reading kind (identifier_of (row_for kind c).1 a) 0 s ≡ Refused (code_at bad_field (fault kind says))
+  pub read : fault kind says ≡ 0 → reading kind (identifier_of (row_for kind c).1 a) 0 s ≡ Ok (a, Tells says)
+  pub refused : (fault kind says ≡ 0 → ⊥) → reading kind (identifier_of (row_for kind c).1 a) 0 s ≡ Err (code_at bad_field (fault kind says))
 
 -- every frame of every type's list, at every address
 abbrev pub EveryFrame : Type 0
@@ -76,11 +74,11 @@ pub record Accepts (kind c : ℕ) (a : Address) : Type 0 where
   pub bytes : List ℕ
   pub says : Command
   pub begins : byte 1 bytes ≡ c
-  pub read : reading kind (identifier_of (row_for kind c).1 a) 0 bytes ≡ Read a (Tells says)
+  pub read : reading kind (identifier_of (row_for kind c).1 a) 0 bytes ≡ Ok (a, Tells says)
 
 abbrev pub EveryRow : Type 0
 EveryRow = (kind c : ℕ) (a : Address) → is_listed kind c ≡ true → a.0 < 256 → Accepts kind c a
 
 -- the type request too, with any type or none
 abbrev pub EveryRequest : Type 0
-EveryRequest = (kind : ℕ) (a : Address) → among kind handed_types ≡ true → a.0 < 256 → reading kind (identifier_of low a) 1 [] ≡ Read a TypeRequest
+EveryRequest = (kind : ℕ) (a : Address) → among kind handed_types ≡ true → a.0 < 256 → reading kind (identifier_of low a) 1 [] ≡ Ok (a, TypeRequest)

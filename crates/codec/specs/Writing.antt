@@ -1,5 +1,5 @@
 -- The frame that a message is written as, or the first refusal in document 01's order.
-use Rattle.std.specs.Prelude.{ℕ, ◌/◌, ◌%◌, List, [], ◌∷◌, Bool, not, ◌||◌, eqb}
+use Rattle.std.specs.Prelude.{ℕ, ◌/◌, ◌%◌, List, [], ◌∷◌, Bool, not, ◌||◌, eqb, Result, Ok, Err}
 use Rattle.laws.specs.Refusals.{bad_type, type_not_known, not_listed}
 use Rattle.laws.specs.Tests.{among, unless, unless_refused}
 use Rattle.laws.specs.Answers.{Numbers, value, refusal}
@@ -16,8 +16,10 @@ use Rattle.frame.specs.declared.messages.Command.{Command}
 use Rattle.frame.specs.declared.messages.Message.{Message}
 use Rattle.frame.specs.declared.messages.Message.TheVariants.{TypeRequest, Tells}
 use Rattle.codec.specs.declared.writer.Frame.{Frame}
-use Rattle.codec.specs.declared.writer.Writing.{Writing}
-use Rattle.codec.specs.declared.writer.Writing.TheVariants.{Written, Refused}
+
+-- what a message is written as: the frame, or the number of a refusal
+abbrev pub Writing : Type 0
+Writing = Result Frame ℕ
 
 -- a bad handed-in type, then what the message has against it
 abbrev pub handed_refusal : ℕ → ℕ → ℕ
@@ -45,20 +47,20 @@ command_frame own a d = record { identifier = identifier_of (row_for own d.1).1 
 -- a command m, whose bytes are d
 unfoldable pub written_as : ℕ → Address → Command → Data → Writing
 written_as kind a m d =
-    unless_refused Refused (handed_refusal kind (write_refusal (own_type kind d) d m)) (Written (command_frame (own_type kind d) a d))
+    unless_refused Err (handed_refusal kind (write_refusal (own_type kind d) d m)) (Ok (command_frame (own_type kind d) a d))
 
 unfoldable pub command_written : ℕ → Address → Command → Writing
 command_written kind a m = written_as kind a m (data_of (encode m))
 
 -- the type, the address, the message
 unfoldable pub writing : ℕ → Address → Message → Writing
-writing kind a TypeRequest = unless_refused Refused (handed_refusal kind 0) (Written (request_frame a))
+writing kind a TypeRequest = unless_refused Err (handed_refusal kind 0) (Ok (request_frame a))
 writing kind a (Tells m) = command_written kind a m
 
 -- in the paper's numbers
 abbrev pub writing_numbers : Writing → Numbers
-writing_numbers (Written f) = value 0
-writing_numbers (Refused n) = refusal n
+writing_numbers (Ok f) = value 0
+writing_numbers (Err n) = refusal n
 
 -- a frame in 12 bytes, as it lies in a buffer: identifier low, identifier high, remote flag, count, eight data bytes
 abbrev pub frame_size : ℕ

@@ -5,4 +5,4 @@ mod encoding;
 mod faults;
 mod writer;
 
-pub use writer::{FRAME_SIZE, Frame, Writing, frame_bytes, handed_refusal, write};
+pub use writer::{FRAME_SIZE, Frame, frame_bytes, handed, write};

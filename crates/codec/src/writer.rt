@@ -1,5 +1,6 @@
 // The writer: a message's frame, or the first refusal in document 01's order.
 ghost use Rattle.std.specs.Prelude.{◌≡◌, ◌≤◌};
+ghost use Rattle.laws.specs.Codes.{code_in, coded};
 ghost use Rattle.frame.specs.Identifiers.{identifier_of};
 ghost use Rattle.judging.specs.Reading.{own_type};
 ghost use Rattle.codec.specs.Writing.{handed_refusal, type_fits, write_refusal, request_frame, command_frame, written_as, command_written, writing, frame_bytes};
@@ -8,7 +9,7 @@ use crate::encoding::encoded;
 use crate::faults::fault_of;
 use frame::{Address, Command, Data, LOW, Message, TYPE_FRAME, row_for};
 use kinds::{NO_TYPE, handed_type};
-use laws::{BAD_TYPE, NOT_LISTED, TYPE_NOT_KNOWN, either, wide32};
+use laws::{Refusal, either, wide32};
 
 #[derive(Clone, Copy)]
 pub struct Frame {
@@ -17,18 +18,15 @@ pub struct Frame {
     pub bytes: Data,
 }
 
-// What a message is written as: the frame, or a refusal, a 9 with its byte.
-#[derive(Clone, Copy)]
-pub enum Writing {
-    Written(Frame),
-    Refused(u16),
-}
-
-// The first refusal of a message: a bad handed-in type, before anything that the message says.
-pub fn handed_refusal(kind: u32, later: u16) -> u16
-    ensures { result ≡ handed_refusal kind later }
+// The first test of a message: of the type handed in, before anything that the message says.
+pub fn handed(kind: u32) -> Result<(), Refusal>
+    ensures { code_in result ≡ handed_refusal kind 0 }
 {
-    if handed_type(kind) { later } else { BAD_TYPE }
+    if handed_type(kind) {
+        Ok(())
+    } else {
+        Err(Refusal::BadType)
+    }
 }
 
 // The type that decides: the one inside H'FF', else the one handed in.
@@ -47,18 +45,18 @@ fn type_fits(d: Data) -> bool
 }
 
 // A command m of the bytes d, judged by the type that decides: 4, 5, 6, and 9 with its byte.
-fn write_refusal(own: u32, d: Data, m: Command) -> u16
-    ensures { result ≡ write_refusal own d m }
+fn write_refusal(own: u32, d: Data, m: Command) -> Result<(), Refusal>
+    ensures { code_in result ≡ write_refusal own d m }
 {
     if !type_fits(d) {
-        return BAD_TYPE;
+        return Err(Refusal::BadType);
     }
     if own == NO_TYPE {
-        return TYPE_NOT_KNOWN;
+        return Err(Refusal::TypeNotKnown);
     }
     let row = row_for(own, d.1);
     if row.0 == 0 {
-        return NOT_LISTED;
+        return Err(Refusal::NotListed);
     }
     fault_of(own, m)
 }
@@ -92,37 +90,30 @@ fn command_frame(own: u32, a: Address, d: Data) -> Frame
 }
 
 // A command m, whose bytes are d.
-fn written_as(kind: u32, a: Address, m: Command, d: Data) -> Writing
-    ensures { result ≡ written_as kind a m d }
+fn written_as(kind: u32, a: Address, m: Command, d: Data) -> Result<Frame, Refusal>
+    ensures { coded result ≡ written_as kind a m d }
 {
     let own = own_type(kind, d);
-    let n = handed_refusal(kind, write_refusal(own, d, m));
-    if n == 0 {
-        Writing::Written(command_frame(own, a, d))
-    } else {
-        Writing::Refused(n)
-    }
+    handed(kind)?;
+    write_refusal(own, d, m)?;
+    Ok(command_frame(own, a, d))
 }
 
-fn command_written(kind: u32, a: Address, m: Command) -> Writing
-    ensures { result ≡ command_written kind a m }
+fn command_written(kind: u32, a: Address, m: Command) -> Result<Frame, Refusal>
+    ensures { coded result ≡ command_written kind a m }
 {
     written_as(kind, a, m, encoded(m))
 }
 
-fn request_written(kind: u32, a: Address) -> Writing
-    ensures { result ≡ writing kind a Message.TypeRequest }
+fn request_written(kind: u32, a: Address) -> Result<Frame, Refusal>
+    ensures { coded result ≡ writing kind a Message.TypeRequest }
 {
-    let n = handed_refusal(kind, 0);
-    if n == 0 {
-        Writing::Written(request_frame(a))
-    } else {
-        Writing::Refused(n)
-    }
+    handed(kind)?;
+    Ok(request_frame(a))
 }
 
-pub fn write(kind: u32, address: Address, message: Message) -> Writing
-    ensures { result ≡ writing kind address message }
+pub fn write(kind: u32, address: Address, message: Message) -> Result<Frame, Refusal>
+    ensures { coded result ≡ writing kind address message }
 {
     match message {
         Message::TypeRequest => request_written(kind, address),

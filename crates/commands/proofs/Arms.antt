@@ -46,16 +46,18 @@ module _ (last : ℕ) (l : Location) where
 
 -- ---- a frame and its arm
 -- the form fails: by its length, or else by its priority
-one_fails : (a b : Bool) (later : ℕ) → a && b ≡ false → unless a wrong_length wrong_priority ≡ unless a wrong_length (unless b wrong_priority later)
-one_fails true true later e = not_both (sym e)
-one_fails true false later e = refl
-one_fails false b later e = refl
+one_fails : (a b : Bool) (later : ℕ) {r : ℕ} → r ≡ unless a wrong_length (unless b wrong_priority 0) → (r ≡ 0 → ⊥) → r ≡ unless a wrong_length (unless b wrong_priority later)
+one_fails true true later e some = absurd (some e)
+one_fails true false later e some = e
+one_fails false b later e some = e
 
-some_number : (a : Bool) → unless a wrong_length wrong_priority ≡ 0 → ⊥
-some_number true e = omega arith
-some_number false e = omega arith
+-- or holds, by both
+both_hold : (a b : Bool) → 0 ≡ unless a wrong_length (unless b wrong_priority 0) → (a ≡ true) × (b ≡ true)
+both_hold true true e = (refl, refl)
+both_hold true false e = absurd (omega arith)
+both_hold false b e = absurd (omega arith)
 
-module _ (b : List ℕ) (slot kind priority : ℕ) (s : List ℕ) where
+module _ {b : List ℕ} {slot kind priority : ℕ} {s : List ℕ} where
   pub refusing : {n : ℕ} {b' : List ℕ} → n ≡ command_number b slot kind priority s → (n ≡ 0 → ⊥) → b' ≡ b → Heard b slot kind priority s n b'
   unfolding command_bytes
   refusing {n} e h q = record { number = e; bytes_after = rw (← e, ne_eqb n 0 h) q }
@@ -64,52 +66,57 @@ module _ (b : List ℕ) (slot kind priority : ℕ) (s : List ℕ) where
   unfolding command_bytes
   hearing {n} e h q = record { number = e; bytes_after = rw (← e, eq-eqb n 0 h) q }
 
-module _ {has : ℕ → Bool} {k n p : ℕ} (arm : Arm has k n p) (b : List ℕ) (slot kind priority : ℕ) (s : List ℕ) (ready : Ready b slot kind) (first : byte 1 s ≡ k) where
-  abbrev pub field : ℕ
-  field = field_refusal (fault kind (decode (behind k (data_of s))))
+module _
+    {has : ℕ → Bool} {k n p : ℕ} (arm : Arm has k n p) {b : List ℕ} {slot kind : ℕ} (priority : ℕ) (s : List ℕ) (ready : Ready b slot kind) (first : byte 1 s ≡ k)
+  where
+    abbrev pub field : ℕ
+    field = field_refusal (fault kind (decode (behind k (data_of s))))
 
-  abbrev pub run_here : Run
-  run_here = run_in (meaning_of kind (decode (behind k (data_of s))))
+    abbrev pub run_here : Run
+    run_here = run_in (meaning_of kind (decode (behind k (data_of s))))
 
-  run_here_lem : named_by kind s ≡ run_here
-  run_here_lem = rw first
+    run_here_lem : named_by kind s ≡ run_here
+    run_here_lem = rw first
 
-  pub not_there : has kind ≡ false → {b' : List ℕ} → b' ≡ b → Heard b slot kind priority s not_listed b'
-  unfolding command_number
-  not_there h q = refusing b slot kind priority s (rw (le-ltb (length b) size ready.whole, lt-ltb slot room ready.within, first, arm.no_type, row-none has k n p arm.rows kind ready.module_type h)) (λ z. omega arith) q
-
-  module _ (here : has kind ≡ true) where
-    number : unless (eqb (length s) n) wrong_length (unless (eqb priority p) wrong_priority field) ≡ command_number b slot kind priority s
+    pub not_there : has kind ≡ false → {b' : List ℕ} → b' ≡ b → Heard b slot kind priority s not_listed b'
     unfolding command_number
-    number =
-        let row = row_of has k n p arm.rows kind ready.module_type here in
-        rw (le-ltb (length b) size ready.whole, lt-ltb slot room ready.within, first, arm.no_type, row.0, row.1, arm.some_bytes)
+    not_there h q = refusing (rw (le-ltb (length b) size ready.whole, lt-ltb slot room ready.within, first, arm.no_type, row-none has k n p arm.rows kind ready.module_type h)) (λ z. omega arith) q
 
-    pub misfitted : {t : Bool} {r : ℕ} {b' : List ℕ} → t ≡ eqb (length s) n && eqb priority p → t ≡ false → r ≡ unless (eqb (length s) n) wrong_length wrong_priority → b' ≡ b → Heard b slot kind priority s r b'
-    misfitted {t} f e q w = refusing b slot kind priority s (q ∙ one_fails (eqb (length s) n) (eqb priority p) field (sym f ∙ e) ∙ number) (λ z. some_number (eqb (length s) n) (sym q ∙ z)) w
+    module _ (here : has kind ≡ true) where
+      number : unless (eqb (length s) n) wrong_length (unless (eqb priority p) wrong_priority field) ≡ command_number b slot kind priority s
+      unfolding command_number
+      number =
+          let row = row_of has k n p arm.rows kind ready.module_type here in
+          rw (le-ltb (length b) size ready.whole, lt-ltb slot room ready.within, first, arm.no_type, row.0, row.1, arm.some_bytes)
 
-    module _ {t : Bool} (f : t ≡ eqb (length s) n && eqb priority p) (e : t ≡ true) where
-      field-number : field ≡ command_number b slot kind priority s
-      field-number = let g = and_both (eqb (length s) n) (eqb priority p) (sym f ∙ e) in rw (g.0, g.1) at number
+      abbrev pub form : ℕ
+      form = unless (eqb (length s) n) wrong_length (unless (eqb priority p) wrong_priority 0)
 
-      pub at_fault : {r : ℕ} {b' : List ℕ} → r ≡ field → (r ≡ 0 → ⊥) → b' ≡ b → Heard b slot kind priority s r b'
-      at_fault e h q = refusing b slot kind priority s (e ∙ field-number) h q
+      pub misfitted : {r : ℕ} {b' : List ℕ} → r ≡ form → (r ≡ 0 → ⊥) → b' ≡ b → Heard b slot kind priority s r b'
+      misfitted e some w = refusing (one_fails (eqb (length s) n) (eqb priority p) field e some ∙ number) some w
 
-      pub told :
-          (r : Run) → r ≡ run_here → {v : ℕ} → v ≡ field → v ≡ 0 → is_empty r.says ≡ false → r.start + length r.says ≤ places → {b' : List ℕ} → b' ≡ told_in b slot r
-          → Heard b slot kind priority s 0 b'
-      unfolding naming
-      told r is v z some fits q = hearing b slot kind priority s (sym z ∙ v ∙ field-number) refl (rw (run_here_lem, ← is, lt-ltb slot room ready.within, some, ← told_in_lem b slot r ready.whole ready.within fits) q)
+      module _ (formed : 0 ≡ form) where
+        field-number : field ≡ command_number b slot kind priority s
+        field-number = let g = both_hold (eqb (length s) n) (eqb priority p) formed in rw (g.0, g.1) at number
 
-      pub passed : no_run ≡ run_here → {v : ℕ} → v ≡ field → v ≡ 0 → {b' : List ℕ} → b' ≡ passed_in b → Heard b slot kind priority s 0 b'
-      unfolding naming passed_in
-      passed is v z q = hearing b slot kind priority s (sym z ∙ v ∙ field-number) refl (rw (run_here_lem, ← is, lt-ltb slot room ready.within) (rw (le-ltb (length b) size ready.whole) at q))
+        pub at_fault : {r : ℕ} {b' : List ℕ} → r ≡ field → (r ≡ 0 → ⊥) → b' ≡ b → Heard b slot kind priority s r b'
+        at_fault e h q = refusing (e ∙ field-number) h q
 
-      pub by_field :
-          (r : Run) → r ≡ run_here → is_empty r.says ≡ false → r.start + length r.says ≤ places → {v : ℕ} {b' : List ℕ} → v ≡ field → b' ≡ cond (eqb field 0) (told_in b slot r) b
-          → Heard b slot kind priority s v b'
-      by_field r is some fits {v} {b'} e q = go (eqb field 0) (eqb-true field 0) (eqb-false field 0) q
-        where
-          go : (t : Bool) → (t ≡ true → field ≡ 0) → (t ≡ false → field ≡ 0 → ⊥) → b' ≡ cond t (told_in b slot r) b → Heard b slot kind priority s v b'
-          go true z n q = let h : v ≡ 0 = e ∙ z refl in rw h (told r is e h some fits q)
-          go false z n q = at_fault e (λ h. n refl (sym e ∙ h)) q
+        pub told :
+            (r : Run) → r ≡ run_here → {v : ℕ} → v ≡ field → v ≡ 0 → is_empty r.says ≡ false → r.start + length r.says ≤ places → {b' : List ℕ} → b' ≡ told_in b slot r
+            → Heard b slot kind priority s 0 b'
+        unfolding naming
+        told r is v z some fits q = hearing (sym z ∙ v ∙ field-number) refl (rw (run_here_lem, ← is, lt-ltb slot room ready.within, some, ← told_in_lem b slot r ready.whole ready.within fits) q)
+
+        pub passed : no_run ≡ run_here → {v : ℕ} → v ≡ field → v ≡ 0 → {b' : List ℕ} → b' ≡ passed_in b → Heard b slot kind priority s 0 b'
+        unfolding naming passed_in
+        passed is v z q = hearing (sym z ∙ v ∙ field-number) refl (rw (run_here_lem, ← is, lt-ltb slot room ready.within) (rw (le-ltb (length b) size ready.whole) at q))
+
+        pub by_field :
+            (r : Run) → r ≡ run_here → is_empty r.says ≡ false → r.start + length r.says ≤ places → {v : ℕ} {b' : List ℕ} → v ≡ field → b' ≡ cond (eqb field 0) (told_in b slot r) b
+            → Heard b slot kind priority s v b'
+        by_field r is some fits {v} {b'} e q = go (eqb field 0) (eqb-true field 0) (eqb-false field 0) q
+          where
+            go : (t : Bool) → (t ≡ true → field ≡ 0) → (t ≡ false → field ≡ 0 → ⊥) → b' ≡ cond t (told_in b slot r) b → Heard b slot kind priority s v b'
+            go true z n q = let h : v ≡ 0 = e ∙ z refl in rw h (told r is e h some fits q)
+            go false z n q = at_fault e (λ h. n refl (sym e ∙ h)) q

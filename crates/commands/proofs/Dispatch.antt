@@ -50,18 +50,18 @@ unlisted kind c x y z = go (is_listed kind c) refl
 module _ (b : List ℕ) (slot kind priority : ℕ) (s : List ℕ) where
   pub too_short_lem : length b < size → Heard b slot kind priority s too_short b
   unfolding command_number
-  too_short_lem h = refusing b slot kind priority s (rw (lt-ltb (length b) size h)) (λ z. omega arith) refl
+  too_short_lem h = refusing (rw (lt-ltb (length b) size h)) (λ z. omega arith) refl
 
   module _ (whole : size ≤ length b) where
     pub no_slot : room ≤ slot → Heard b slot kind priority s type_not_known b
     unfolding command_number
-    no_slot h = refusing b slot kind priority s (rw (le-ltb (length b) size whole, le-ltb slot room h)) (λ z. omega arith) refl
+    no_slot h = refusing (rw (le-ltb (length b) size whole, le-ltb slot room h)) (λ z. omega arith) refl
 
     module _ (within : slot < room) where
       -- of a number that is no type's, and of a command with no arm
       not_listed_lem : (eqb (byte 1 s) type_command ≡ false → is_listed kind (byte 1 s) ≡ false) → Heard b slot kind priority s not_listed b
       unfolding command_number
-      not_listed_lem h = refusing b slot kind priority s (rw (le-ltb (length b) size whole, lt-ltb slot room within) (go (eqb (byte 1 s) type_command) h)) (λ z. omega arith) refl
+      not_listed_lem h = refusing (rw (le-ltb (length b) size whole, lt-ltb slot room within) (go (eqb (byte 1 s) type_command) h)) (λ z. omega arith) refl
         where
           go : (t : Bool) → (t ≡ false → is_listed kind (byte 1 s) ≡ false) → not_listed ≡ unless (not t) not_listed (row_refusal kind priority (data_of s) (command_of s))
           go true h = refl

@@ -1,17 +1,18 @@
 // The commands on a blind, which every type but VMB8IR has.
 ghost use Rattle.std.specs.Prelude.{◌≡◌, ◌<◌, true, ◌≢◌};
+ghost use Rattle.laws.specs.Codes.{code_in};
 ghost use Rattle.laws.specs.Tests.{among};
 ghost use Rattle.kinds.specs.Types.{module_types, vmb8ir};
 ghost use Rattle.frame.specs.Bytes.{byte};
 ghost use Rattle.fields.specs.Fields.{blind_status_fault, field_refusal};
 ghost use Rattle.commands.specs.Arms.{Ready, Heard, Moves, blind_in, blind_fit, is_state, status_bytes};
 
-use crate::forms::{formed, misfit};
+use crate::forms::formed;
 use changes::{ask_one, tell_one};
 use fields::{blind_status_fault, stop_fault};
 use frame::{HIGH, LOW};
 use kinds::{VMB2BL, VMB8IR, one_bit};
-use laws::{NOT_LISTED, both, byte_at, either, wide32};
+use laws::{Refusal, both, byte_at, either, wide32};
 use places::BLINDS;
 
 // The blind that a byte stands for, from 1; 0 where it stands for none. The byte is compared before the type: the first blind is the same for
@@ -61,34 +62,38 @@ fn status_told(
     timeout: u8,
     state: u8,
     led: u8,
-) -> u16
+) -> Result<(), Refusal>
     requires { (among kind module_types ≡ true) × (kind ≢ vmb8ir) }
-    ensures value { result ≡ field_refusal (blind_status_fault kind channel timeout state led) }
+    ensures value { code_in result ≡ field_refusal (blind_status_fault kind channel timeout state led) }
     ensures picture_after { picture.new ≡ status_bytes picture.old slot kind channel timeout state led }
 {
     let n = blind_fit(kind, channel, timeout, led);
     if both(n == 1, is_state(1, state)) {
         tell_one(picture, slot, BLINDS, state);
-        return 0;
+        return Ok(());
     }
     if both(n == 2, is_state(4, state)) {
         tell_one(picture, slot, BLINDS + 1, state / 4);
-        return 0;
+        return Ok(());
     }
     blind_status_fault(wide32(kind), channel, timeout, state, led)
 }
 
 // A blind's state told.
-pub(crate) fn blind_told(picture: &mut [u8], slot: u8, kind: u8, priority: u32, data: &[u8]) -> u16
+pub(crate) fn blind_told(
+    picture: &mut [u8],
+    slot: u8,
+    kind: u8,
+    priority: u32,
+    data: &[u8],
+) -> Result<(), Refusal>
     requires { Ready picture.old slot kind × (byte 1 «data».now ≡ 0xEC) }
-    ensures { Heard picture.old slot kind priority «data».now result picture.new }
+    ensures { Heard picture.old slot kind priority «data».now (code_in result) picture.new }
 {
     if wide32(kind) == VMB8IR {
-        return NOT_LISTED;
+        return Err(Refusal::NotListed);
     }
-    if !formed(priority, LOW, data, 8) {
-        return misfit(data, 8);
-    }
+    formed(priority, LOW, data, 8)?;
     status_told(
         picture,
         slot,
@@ -108,20 +113,18 @@ pub(crate) fn blind_moved(
     priority: u32,
     data: &[u8],
     count: usize,
-) -> u16
+) -> Result<(), Refusal>
     requires { Ready picture.old slot kind × Moves (byte 1 «data».now) count }
-    ensures { Heard picture.old slot kind priority «data».now result picture.new }
+    ensures { Heard picture.old slot kind priority «data».now (code_in result) picture.new }
 {
     if wide32(kind) == VMB8IR {
-        return NOT_LISTED;
+        return Err(Refusal::NotListed);
     }
-    if !formed(priority, HIGH, data, count) {
-        return misfit(data, count);
-    }
+    formed(priority, HIGH, data, count)?;
     let n = blind_in(kind, byte_at(data, 1));
     if n == 0 {
         return stop_fault(wide32(kind), byte_at(data, 1));
     }
     ask_one(picture, slot, BLINDS + wide32(n - 1));
-    0
+    Ok(())
 }

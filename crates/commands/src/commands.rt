@@ -1,5 +1,6 @@
 // A command by its number: each has one function, called here and nowhere else, so that it becomes a part of this one.
 ghost use Rattle.std.specs.Prelude.{◌≡◌, false};
+ghost use Rattle.laws.specs.Codes.{code_in};
 ghost use Rattle.laws.specs.Tests.{among};
 ghost use Rattle.frame.specs.Bytes.{byte};
 ghost use Rattle.commands.specs.Commands.{command_number, command_bytes};
@@ -11,13 +12,20 @@ use crate::lights::{inputs_told, leds_told, some_leds_told};
 use crate::names::{last_told, name_asked, six_told};
 use crate::others::{buttons_told, free_heard, status_asked};
 use kinds::module_type;
-use laws::{NOT_LISTED, TOO_SHORT, TYPE_NOT_KNOWN, byte_at, wide32};
+use laws::{Refusal, byte_at, wide32};
 use shape::{ROOM, SIZE};
 
 // The commands that stand in a row of numbers, and share a function: F5 to F9, F0 and F1. Every other is in no module's list.
-fn hear_rest(picture: &mut [u8], slot: u8, kind: u8, priority: u32, command: u8, data: &[u8]) -> u16
+fn hear_rest(
+    picture: &mut [u8],
+    slot: u8,
+    kind: u8,
+    priority: u32,
+    command: u8,
+    data: &[u8],
+) -> Result<(), Refusal>
     requires { Ready picture.old slot kind × (command ≡ byte 1 «data».now) × (among command single ≡ false) }
-    ensures { Heard picture.old slot kind priority «data».now result picture.new }
+    ensures { Heard picture.old slot kind priority «data».now (code_in result) picture.new }
 {
     let state = std::num::wrapping_sub_u8(command, 0xF5);
     if state <= 4 {
@@ -27,13 +35,19 @@ fn hear_rest(picture: &mut [u8], slot: u8, kind: u8, priority: u32, command: u8,
     if part <= 1 {
         return six_told(picture, slot, kind, part, priority, data);
     }
-    NOT_LISTED
+    Err(Refusal::NotListed)
 }
 
 // Any command to a module.
-fn hear_listed(picture: &mut [u8], slot: u8, kind: u8, priority: u32, data: &[u8]) -> u16
+fn hear_listed(
+    picture: &mut [u8],
+    slot: u8,
+    kind: u8,
+    priority: u32,
+    data: &[u8],
+) -> Result<(), Refusal>
     requires { Ready picture.old slot kind }
-    ensures { Heard picture.old slot kind priority «data».now result picture.new }
+    ensures { Heard picture.old slot kind priority «data».now (code_in result) picture.new }
 {
     let command = byte_at(data, 0);
     match command {
@@ -60,19 +74,25 @@ fn hear_listed(picture: &mut [u8], slot: u8, kind: u8, priority: u32, data: &[u8
     }
 }
 
-// A frame with data that the module in a slot, of the type `kind`, sends or is sent: its refusal, or 0 and what it names is told.
-pub fn hear_command(picture: &mut [u8], slot: u8, kind: u8, priority: u32, data: &[u8]) -> u16
-    ensures value { result ≡ command_number picture.old slot kind priority «data».now }
+// A frame with data that the module in a slot, of the type `kind`, sends or is sent: refused, or what it names is told.
+pub fn hear_command(
+    picture: &mut [u8],
+    slot: u8,
+    kind: u8,
+    priority: u32,
+    data: &[u8],
+) -> Result<(), Refusal>
+    ensures value { code_in result ≡ command_number picture.old slot kind priority «data».now }
     ensures picture_after { picture.new ≡ command_bytes picture.old slot kind priority «data».now }
 {
     if picture.len() < SIZE {
-        return TOO_SHORT;
+        return Err(Refusal::TooShort);
     }
     if slot >= ROOM {
-        return TYPE_NOT_KNOWN;
+        return Err(Refusal::TypeNotKnown);
     }
     if !module_type(wide32(kind)) {
-        return NOT_LISTED;
+        return Err(Refusal::NotListed);
     }
     hear_listed(picture, slot, kind, priority, data)
 }

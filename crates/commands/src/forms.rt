@@ -1,5 +1,6 @@
 // The form of a frame, and what its first bytes name. Each arm tests its own row, which is written there as numbers.
 ghost use Rattle.std.specs.Prelude.{◌≡◌, true, ◌&&◌, length, ◌==◌};
+ghost use Rattle.laws.specs.Codes.{code_in};
 ghost use Rattle.laws.specs.Refusals.{wrong_length, wrong_priority};
 ghost use Rattle.laws.specs.Tests.{among, unless};
 ghost use Rattle.kinds.specs.Types.{module_types, last_cell, last_start, name_of};
@@ -9,21 +10,21 @@ ghost use Rattle.places.specs.Places.{character_place};
 
 use frame::{Location, location_of};
 use kinds::{VMB1BL, name_of};
-use laws::{WRONG_LENGTH, WRONG_PRIORITY, both, byte_at, unless, wide32};
+use laws::{Refusal, both, byte_at, wide32};
 use places::character_place;
 
-// So many bytes, at the priority that is the row's own.
-pub(crate) fn formed(priority: u32, own: u32, data: &[u8], count: usize) -> bool
-    ensures { result ≡ (length «data».now == count) && (priority == own) }
+// So many bytes, at the priority that is the row's own: one test where both are.
+pub(crate) fn formed(priority: u32, own: u32, data: &[u8], count: usize) -> Result<(), Refusal>
+    ensures { code_in result ≡ unless (length «data».now == count) wrong_length (unless (priority == own) wrong_priority 0) }
 {
-    both(data.len() == count, priority == own)
-}
-
-// What a frame that is not formed so is refused for.
-pub(crate) fn misfit(data: &[u8], count: usize) -> u16
-    ensures { result ≡ unless (length «data».now == count) wrong_length wrong_priority }
-{
-    unless(data.len() == count, WRONG_LENGTH, WRONG_PRIORITY)
+    if both(data.len() == count, priority == own) {
+        return Ok(());
+    }
+    if data.len() == count {
+        Err(Refusal::WrongPriority)
+    } else {
+        Err(Refusal::WrongLength)
+    }
 }
 
 pub(crate) fn location_in(data: &[u8]) -> Location

@@ -1,13 +1,14 @@
 // The commands that name no place of the picture's: buttons, states asked for, errors, a memory asked for.
 ghost use Rattle.std.specs.Prelude.{◌≡◌};
+ghost use Rattle.laws.specs.Codes.{code_in};
 ghost use Rattle.frame.specs.Bytes.{byte};
 ghost use Rattle.commands.specs.Arms.{Ready, Heard, Free};
 
-use crate::forms::{formed, misfit};
+use crate::forms::formed;
 use changes::pass;
 use fields::{buttons_fault, status_asked_fault};
 use frame::{HIGH, LOW};
-use laws::{byte_at, wide32};
+use laws::{Refusal, byte_at, wide32};
 
 // Buttons pressed.
 pub(crate) fn buttons_told(
@@ -16,24 +17,19 @@ pub(crate) fn buttons_told(
     kind: u8,
     priority: u32,
     data: &[u8],
-) -> u16
+) -> Result<(), Refusal>
     requires { Ready picture.old slot kind × (byte 1 «data».now ≡ 0x00) }
-    ensures { Heard picture.old slot kind priority «data».now result picture.new }
+    ensures { Heard picture.old slot kind priority «data».now (code_in result) picture.new }
 {
-    if !formed(priority, HIGH, data, 4) {
-        return misfit(data, 4);
-    }
-    let n = buttons_fault(
+    formed(priority, HIGH, data, 4)?;
+    buttons_fault(
         wide32(kind),
         byte_at(data, 1),
         byte_at(data, 2),
         byte_at(data, 3),
-    );
-    if n != 0 {
-        return n;
-    }
+    )?;
     pass(picture);
-    0
+    Ok(())
 }
 
 // A state asked for.
@@ -43,19 +39,14 @@ pub(crate) fn status_asked(
     kind: u8,
     priority: u32,
     data: &[u8],
-) -> u16
+) -> Result<(), Refusal>
     requires { Ready picture.old slot kind × (byte 1 «data».now ≡ 0xFA) }
-    ensures { Heard picture.old slot kind priority «data».now result picture.new }
+    ensures { Heard picture.old slot kind priority «data».now (code_in result) picture.new }
 {
-    if !formed(priority, LOW, data, 2) {
-        return misfit(data, 2);
-    }
-    let n = status_asked_fault(wide32(kind), byte_at(data, 1));
-    if n != 0 {
-        return n;
-    }
+    formed(priority, LOW, data, 2)?;
+    status_asked_fault(wide32(kind), byte_at(data, 1))?;
     pass(picture);
-    0
+    Ok(())
 }
 
 // A command all of whose bytes are free.
@@ -66,13 +57,11 @@ pub(crate) fn free_heard(
     priority: u32,
     data: &[u8],
     count: usize,
-) -> u16
+) -> Result<(), Refusal>
     requires { Ready picture.old slot kind × Free (byte 1 «data».now) count }
-    ensures { Heard picture.old slot kind priority «data».now result picture.new }
+    ensures { Heard picture.old slot kind priority «data».now (code_in result) picture.new }
 {
-    if !formed(priority, LOW, data, count) {
-        return misfit(data, count);
-    }
+    formed(priority, LOW, data, count)?;
     pass(picture);
-    0
+    Ok(())
 }

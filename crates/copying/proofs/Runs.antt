@@ -54,15 +54,10 @@ module _ (s : List ℕ) (from : ℕ) where
   unfolding tab
   eight_taken h = rw (← taken 8 h) (simp add-zero)
 
--- the first i of the bytes stand at the beginning, and the length is the old one
-abbrev pub Front : List ℕ → List ℕ → List ℕ → ℕ → Type 0
-Front bytes out₀ out i = (i ≤ length bytes) × (length out ≡ length out₀) × (out ≡ sets out₀ 0 (take i bytes))
-
--- n bytes more
-pub front_on : (bytes out₀ out : List ℕ) (i n : ℕ) {y : List ℕ} → i + n ≤ length bytes → Front bytes out₀ out i → y ≡ sets out i (take n (drop i bytes)) → Front bytes out₀ y (i + n)
-front_on bytes out₀ out i n h f q =
-    let l : length out ≡ length out₀ = f.1 in
-    (omega arith, ap length q ∙ rw length-sets l, copied_on bytes 0 out₀ 0 i n out _ (omega arith) f.2 (rw zero-add q))
+-- n bytes more after the first i, which stand at the beginning
+pub front_on : (bytes out₀ out : List ℕ) (i n : ℕ) {y : List ℕ} → i + n ≤ length bytes → out ≡ sets out₀ 0 (take i bytes) → y ≡ sets out i (take n (drop i bytes))
+    → y ≡ sets out₀ 0 (take (i + n) bytes)
+front_on bytes out₀ out i n h f q = copied_on bytes 0 out₀ 0 i n out _ (omega arith) f (rw zero-add q)
 
 -- all of a list to the beginning, in two parts
 pub copied_in_two : (s out : List ℕ) (m rest : ℕ) {x y : List ℕ} → m + rest ≡ length s → length s ≤ length out → x ≡ sets out 0 (take m s)

@@ -67,12 +67,11 @@ fn move_blocks(bytes: &[u8], out: &mut [u8]) -> usize
     requires { length bytes.now ≤ length out.old }
     ensures { (result ≤ length bytes.now) × (out.new ≡ sets out.old 0 (take result bytes.now)) }
 {
-    let mut i: usize = 0;
-    while BLOCK <= bytes.len() - i {
-        move_block(bytes, i, out, i);
-        i += BLOCK;
+    let blocks = bytes.len() / BLOCK;
+    for i in 0..blocks {
+        move_block(bytes, BLOCK * i, out, BLOCK * i);
     }
-    i
+    BLOCK * blocks
 }
 
 // All of `bytes` to the beginning of a buffer, whole blocks first and the rest byte by byte; nothing where they have no room.
@@ -93,12 +92,11 @@ fn move_pieces(bytes: &[u8], out: &mut [u8]) -> usize
     requires { length bytes.now ≤ length out.old }
     ensures { (result ≤ length bytes.now) × (out.new ≡ sets out.old 0 (take result bytes.now)) }
 {
-    let mut i: usize = 0;
-    while PIECE <= bytes.len() - i {
-        move_sixteen(bytes, i, out, i);
-        i += PIECE;
+    let pieces = bytes.len() / PIECE;
+    for i in 0..pieces {
+        move_sixteen(bytes, PIECE * i, out, PIECE * i);
     }
-    i
+    PIECE * pieces
 }
 
 // The same copy of bytes that are too few for a block, such as a name's.

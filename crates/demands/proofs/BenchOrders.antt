@@ -1,4 +1,5 @@
 -- The orders of the bench's calls. Assumes nothing.
+use Rattle.std.specs.Prelude.{Ok, Err, Some, None}
 use Prim.Native.Nat.{ℕ, ◌+◌}
 use native.Mathlib.Omega.{arith}
 use mathlib.Core.Path.{◌≡◌, refl, sym, ap, ◌∙◌}
@@ -17,21 +18,15 @@ use Rattle.frame.specs.Messages.{type_command}
 use Rattle.fields.specs.Fields.{fault}
 use Rattle.frame.specs.declared.messages.Message.{Message}
 use Rattle.frame.specs.declared.messages.Message.TheVariants.{TypeRequest, Tells}
-use Rattle.frame.specs.declared.messages.Reading.{Reading}
-use Rattle.frame.specs.declared.messages.Reading.TheVariants.{Read, Refused}
-use Rattle.judging.specs.Reading.{row_refusal, command_refusal, request_refusal, command_read, request_read, reading}
+use Rattle.judging.specs.Reading.{row_refusal, command_refusal, request_refusal, command_read, request_read, reading, Reading}
 use Rattle.shape.specs.Limits.{addresses, bus_address}
 use Rattle.places.specs.Runs.{command_of}
 use Rattle.replies.specs.Bench.{bench_size, own_address}
 use Rattle.bench.specs.Making.{named_cells, making}
 use Rattle.bench.specs.Deeds.{done}
 use Rattle.replies.specs.Replies.{replies}
-use Rattle.verdicts.specs.Verdicts.{first_refusals, sent_only, judged_if, judged}
-use Rattle.taking.specs.Taking.{Outcome, kept, taken_with, given, outcome_of, taking}
-use Rattle.verdicts.specs.declared.verdicts.Verdict.{Verdict as BenchVerdict}
-use Rattle.verdicts.specs.declared.verdicts.Verdict.TheVariants as bench
-use Rattle.taking.specs.declared.taking.Taken.{Taken}
-use Rattle.taking.specs.declared.taking.Taken.TheVariants as taken
+use Rattle.verdicts.specs.Verdicts.{first_refusals, sent_only, judged_if, judged, Verdict as BenchVerdict}
+use Rattle.taking.specs.Taking.{Outcome, kept, taken_with, given, outcome_of, taking, Taken}
 use Rattle.demands.specs.Order.{Test, ◌or◌, Verdict, answers, refuses, verdict, form_tests, request_tests, other_tests, making_order, message_in, reply_room, own_tests, taking_order}
 use Rattle.demands.specs.Demand1.{verdict_of_taken, Call, Benches}
 use Rattle.demands.proofs.Orders.{answers_refuses, unlesses, refused_or, call_fault, call_done, answer-fault}
@@ -76,13 +71,13 @@ module _ (b : List ℕ) (identifier remote : ℕ) (s out : List ℕ) where
   after_form = cond (eqb remote 1) (request_read (priority_of identifier) (address_of identifier)) (command_read vmb8ir (priority_of identifier) (address_of identifier) (data_of s))
 
   abbrev LateReading : Reading → Type 0
-  LateReading (Read a m) = Unit {0}
-  LateReading (Refused n) = Late n
+  LateReading (Ok (a, m)) = Unit {0}
+  LateReading (Err n) = Late n
 
-  late_refused : (n : ℕ) (r : Reading) → Late n → LateReading r → LateReading (unless_refused Refused n r)
+  late_refused : (n : ℕ) (r : Reading) → Late n → LateReading r → LateReading (unless_refused Err n r)
   late_refused n r h l = go (eqb n 0)
     where
-      go : (c : Bool) → LateReading (cond c r (Refused n))
+      go : (c : Bool) → LateReading (cond c r (Err n))
       go true = l
       go false = h
 
@@ -91,8 +86,8 @@ module _ (b : List ℕ) (identifier remote : ℕ) (s out : List ℕ) where
   after_late = go (eqb remote 1)
     where
       go : (c : Bool) → LateReading (cond c (request_read (priority_of identifier) (address_of identifier)) (command_read vmb8ir (priority_of identifier) (address_of identifier) (data_of s)))
-      go true = late_refused (request_refusal (priority_of identifier)) (Read (address_of identifier) TypeRequest) (late_unless (eqb (priority_of identifier) low) wrong_priority 0 refl refl) tt
-      go false = late_refused (command_refusal vmb8ir (priority_of identifier) (data_of s) (command_of s)) (Read (address_of identifier) (Tells (command_of s))) command_late tt
+      go true = late_refused (request_refusal (priority_of identifier)) (Ok (address_of identifier, TypeRequest)) (late_unless (eqb (priority_of identifier) low) wrong_priority 0 refl refl) tt
+      go false = late_refused (command_refusal vmb8ir (priority_of identifier) (data_of s) (command_of s)) (Ok (address_of identifier, Tells (command_of s))) command_late tt
 
   -- what the bench gives, by what is read, whether the frame is its own, and whether only a module sends the command
   abbrev of : Bool → Bool → Reading → Verdict
@@ -100,19 +95,19 @@ module _ (b : List ℕ) (identifier remote : ℕ) (s out : List ℕ) where
 
   silent : (sent : Bool) (r : Reading) → LateReading r → of false sent r ≡ answers
   unfolding judged_if
-  silent sent (Read a m) l = refl
-  silent sent (Refused n) l = rw l
+  silent sent (Ok (a, m)) l = refl
+  silent sent (Err n) l = rw l
 
   six : (r : Reading) → LateReading r → of true true r ≡ refuses not_listed
   unfolding judged_if
-  six (Read a m) l = refl
-  six (Refused n) l = rw l
+  six (Ok (a, m)) l = refl
+  six (Err n) l = rw l
 
-  own_same : (n : ℕ) → of true false (Refused n) ≡ refuses n
+  own_same : (n : ℕ) → of true false (Err n) ≡ refuses n
   unfolding judged_if
   own_same n = go (among n first_refusals)
     where
-      go : (c : Bool) → verdict_of_taken (outcome_of (cond c (bench.Refuses n) (bench.Refuses n)) b out).answer ≡ refuses n
+      go : (c : Bool) → verdict_of_taken (outcome_of (cond c (Err n) (Err n)) b out).answer ≡ refuses n
       go true = refl
       go false = refl
 
@@ -120,7 +115,7 @@ module _ (b : List ℕ) (identifier remote : ℕ) (s out : List ℕ) where
   unfolding given
   space_test m = go (leb (reply_room b m) (length out))
     where
-      go : (c : Bool) → verdict_of_taken (cond c (taken_with (done m b) (replies (done m b) m) out) (kept (taken.Refused too_short) b out)).answer ≡ verdict (c or too_short ∷ [])
+      go : (c : Bool) → verdict_of_taken (cond c (taken_with (done m b) (replies (done m b) m) out) (kept (Err too_short) b out)).answer ≡ verdict (c or too_short ∷ [])
       go true = refl
       go false = refl
 
@@ -145,11 +140,11 @@ module _ (b : List ℕ) (identifier remote : ℕ) (s out : List ℕ) where
       → of true false (cond c (request_read (priority_of identifier) (address_of identifier)) (command_read vmb8ir (priority_of identifier) (address_of identifier) (data_of s)))
       ≡ verdict (cond c (request_tests identifier) (other_tests vmb8ir identifier s) ++ (leb (reply_room b (cond c TypeRequest (Tells (command_of s)))) (length out) or too_short ∷ []))
   unfolding request_read command_read judged_if
-  own_late true q h = refused_or (of true false) Refused own_same (request_tests identifier) (leb (reply_room b TypeRequest) (length out) or too_short ∷ []) refl (Read (address_of identifier) TypeRequest) (space_test TypeRequest)
+  own_late true q h = refused_or (of true false) Err own_same (request_tests identifier) (leb (reply_room b TypeRequest) (length out) or too_short ∷ []) refl (Ok (address_of identifier, TypeRequest)) (space_test TypeRequest)
   own_late false q h =
       let z = others (not_type (h refl)) in
-      ap (λ (n : ℕ). of true false (unless_refused Refused n (Read (address_of identifier) (Tells (command_of s))))) z
-      ∙ refused_or (of true false) Refused own_same (other_tests vmb8ir identifier s) (leb (reply_room b (Tells (command_of s))) (length out) or too_short ∷ []) (rw (nine_numbered (fault vmb8ir (command_of s)))) (Read (address_of identifier) (Tells (command_of s))) (space_test (Tells (command_of s)))
+      ap (λ (n : ℕ). of true false (unless_refused Err n (Ok (address_of identifier, Tells (command_of s))))) z
+      ∙ refused_or (of true false) Err own_same (other_tests vmb8ir identifier s) (leb (reply_room b (Tells (command_of s))) (length out) or too_short ∷ []) (rw (nine_numbered (fault vmb8ir (command_of s)))) (Ok (address_of identifier, Tells (command_of s))) (space_test (Tells (command_of s)))
 
   formed : well_formed remote (length s) ≡ true → eqb remote 1 ≡ false → remote ≡ 0
   formed w q = go (eqb remote 0) refl (rw q at w)
@@ -172,7 +167,7 @@ module _ (b : List ℕ) (identifier remote : ℕ) (s out : List ℕ) where
 
   -- 1, 17, 2 and 3 come first
   form_order : (here sent : Bool) (x y z v : Bool) (us : List Test) → (z ≡ true → of here sent after_form ≡ verdict us)
-      → of here sent (unless_refused Refused (unless x bad_identifier (unless y sid0_set (unless z bad_form (unless v bad_priority 0)))) after_form)
+      → of here sent (unless_refused Err (unless x bad_identifier (unless y sid0_set (unless z bad_form (unless v bad_priority 0)))) after_form)
       ≡ verdict ((x or bad_identifier ∷ y or sid0_set ∷ z or bad_form ∷ v or bad_priority ∷ []) ++ us)
   unfolding judged_if
   form_order here sent false y z v us h = refl
@@ -192,7 +187,7 @@ module _ (b : List ℕ) (identifier remote : ℕ) (s out : List ℕ) where
   takes : verdict_of_taken (taking b identifier remote s out).answer ≡ verdict (taking_order b identifier remote s (length out))
   unfolding taking
   takes =
-      answer-fault (λ (o : Outcome). verdict_of_taken o.answer) too_short (form_tests vmb8ir identifier remote s ++ cond (eqb (bus_address identifier) (own_address b)) (own_tests b identifier remote s (length out)) []) (outcome_of (judged (own_address b) identifier remote s) b out) (kept (taken.Refused too_short) b out) read_order_lem refl (ltb (length b) bench_size)
+      answer-fault (λ (o : Outcome). verdict_of_taken o.answer) too_short (form_tests vmb8ir identifier remote s ++ cond (eqb (bus_address identifier) (own_address b)) (own_tests b identifier remote s (length out)) []) (outcome_of (judged (own_address b) identifier remote s) b out) (kept (Err too_short) b out) read_order_lem refl (ltb (length b) bench_size)
 
   -- a refusal leaves both buffers as they were
   abbrev Keeps : Outcome → Type 0
@@ -205,21 +200,21 @@ module _ (b : List ℕ) (identifier remote : ℕ) (s out : List ℕ) where
   unfolding given
   given_keeps m = go (leb (reply_room b m) (length out))
     where
-      go : (c : Bool) → Keeps (cond c (taken_with (done m b) (replies (done m b) m) out) (kept (taken.Refused too_short) b out))
+      go : (c : Bool) → Keeps (cond c (taken_with (done m b) (replies (done m b) m) out) (kept (Err too_short) b out))
       go true n e = answers_refuses e
       go false n e = (refl, refl)
 
   judged_keeps : (v : BenchVerdict) → Keeps (outcome_of v b out)
-  judged_keeps (bench.Takes m) = given_keeps m
-  judged_keeps bench.Silent = kept_keeps (taken.Replies 0)
-  judged_keeps (bench.Refuses n) = kept_keeps (taken.Refused n)
+  judged_keeps (Ok (Some m)) = given_keeps m
+  judged_keeps (Ok None) = kept_keeps (Ok 0)
+  judged_keeps (Err n) = kept_keeps (Err n)
 
   keeps : Keeps (taking b identifier remote s out)
   unfolding taking
   keeps = go (ltb (length b) bench_size)
     where
-      go : (c : Bool) → Keeps (cond c (kept (taken.Refused too_short) b out) (outcome_of (judged (own_address b) identifier remote s) b out))
-      go true = kept_keeps (taken.Refused too_short)
+      go : (c : Bool) → Keeps (cond c (kept (Err too_short) b out) (outcome_of (judged (own_address b) identifier remote s) b out))
+      go true = kept_keeps (Err too_short)
       go false = judged_keeps (judged (own_address b) identifier remote s)
 
 pub benches : Benches

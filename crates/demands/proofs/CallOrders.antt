@@ -1,4 +1,6 @@
 -- The orders of a record put into a buffer, and of the calls from C. Assumes nothing.
+use Rattle.shape.specs.Answers.{Outcome, Answer}
+use Rattle.std.specs.Prelude.{Ok, Err, Some, None, Result}
 use Prim.Native.Nat.{ℕ, ◌+◌, ◌/◌, ◌%◌, ◌<◌}
 use native.Mathlib.Omega.{arith}
 use mathlib.Core.Path.{◌≡◌, refl, ap}
@@ -13,29 +15,17 @@ use Rattle.laws.specs.Tests.{among, unless}
 use Rattle.laws.specs.Answers as numbers
 use Rattle.laws.specs.Copies.{copied_in}
 use Rattle.kinds.specs.Types.{handed_types}
-use Rattle.judging.specs.Reading.{reading}
-use Rattle.codec.specs.Writing.{writing, frame_size, frame_bytes}
-use Rattle.frame.specs.declared.messages.Reading.{Reading}
-use Rattle.frame.specs.declared.messages.Reading.TheVariants as reader
-use Rattle.codec.specs.declared.writer.Writing.{Writing}
-use Rattle.codec.specs.declared.writer.Writing.TheVariants as writer
-use Rattle.shape.specs.declared.answers.Outcome.{Outcome}
-use Rattle.shape.specs.declared.answers.Outcome.TheVariants as outcome
-use Rattle.shape.specs.declared.answers.Answer.{Answer}
-use Rattle.shape.specs.declared.answers.Answer.TheVariants as answer
-use Rattle.recorder.specs.declared.writes.Put.{Put}
-use Rattle.recorder.specs.declared.writes.Put.TheVariants as put
+use Rattle.judging.specs.Reading.{reading, Reading}
+use Rattle.codec.specs.Writing.{writing, frame_size, frame_bytes, Writing}
 use Rattle.recording.specs.Limits.{in_range}
 use Rattle.recorder.specs.Write.{record_bytes, put_case, placed, put_answer, put_bytes}
 use Rattle.recording.proofs.Entries.{records_are_whole, faults_are_placed, old_recordings_read}
 use Rattle.recording.proofs.Faults.{fault_is_certain, mendable_is_cut}
 use Rattle.recording.proofs.Mending.{cut_can_be_mended}
 use Rattle.recording.proofs.Windows.{window_settles}
-use Rattle.layouts.specs.declared.parts.Held.{Held}
-use Rattle.layouts.specs.declared.parts.Held.TheVariants.{Holds, Nothing}
 use Rattle.results.specs.Words.{values, refused_word, word, room_word, outcome_word, answer_word}
 use Rattle.velbus.specs.Recordings.{put_word}
-use Rattle.layouts.specs.Parts.{parts_of}
+use Rattle.layouts.specs.Parts.{parts_of, Held}
 use Rattle.layouts.specs.Layout.{message_size, laid_bytes, held_in}
 use Rattle.velbus.specs.Frames.{read_word, read_into, written_word, written_into, held_word, held_into, write_word, write_into}
 use Rattle.demands.specs.Order.{Test, ◌or◌, Verdict, answers, refuses, verdict, reader_order, writer_order, put_order, held_tests, write_order}
@@ -49,15 +39,15 @@ module _ (b : List ℕ) (at gap identifier remote : ℕ) (ds : List ℕ) where
   bytes = record_bytes gap identifier remote ds
 
   -- of whatever is given for the answer
-  puts : {B : Type 0} (says : Verdict → B) (of : Put → B) → ((n : ℕ) → of (put.Refused n) ≡ says (refuses n)) → of (put.Wrote (length bytes)) ≡ says answers
+  puts : {B : Type 0} (says : Verdict → B) (of : Result ℕ ℕ → B) → ((n : ℕ) → of (Err n) ≡ says (refuses n)) → of (Ok (length bytes)) ≡ says answers
       → Decided says (put_order b at gap identifier remote ds) b (of (put_answer b at gap identifier remote ds)) (put_bytes b at gap identifier remote ds)
   unfolding put_answer put_bytes
   puts says of same wrote =
       by_test says b bad_number _
-      (λ c. of (put_case c (length b) at bytes (put.Refused bad_number) (put.Refused too_short) (put.Wrote (length bytes))))
+      (λ c. of (put_case c (length b) at bytes (Err bad_number) (Err too_short) (Ok (length bytes))))
       (λ c. put_case c (length b) at bytes b b (placed b at bytes)) (in_range gap identifier remote (length ds))
       (by_test says b too_short []
-      (λ c. of (cond c (put.Wrote (length bytes)) (put.Refused too_short))) (λ c. cond c (placed b at bytes) b) (leb (at + length bytes) (length b))
+      (λ c. of (cond c (Ok (length bytes)) (Err too_short))) (λ c. cond c (placed b at bytes) b) (leb (at + length bytes) (length b))
       (record { decides = wrote; keeps = λ n e. answers_refuses e }) (same too_short) refl)
       (same bad_number) refl
 
@@ -93,12 +83,12 @@ module _ (ts : List Test) (out : List ℕ) where
 
   read-then : (r : Reading) → verdict_of_reading r ≡ verdict ts → Word message_size (ts ++ space message_size) out (read_word r (length out)) (read_into r out)
   unfolding laid_bytes
-  read-then (reader.Read a m) e = answered-then (λ v. word_of v message_size) out ts (space message_size) _ _ e (lays out (laid_bytes (parts_of a m)))
-  read-then (reader.Refused n) e = refused-then (λ v. word_of v message_size) out ts (space message_size) _ _ n e refl refl
+  read-then (Ok (a, m)) e = answered-then (λ v. word_of v message_size) out ts (space message_size) _ _ e (lays out (laid_bytes (parts_of a m)))
+  read-then (Err n) e = refused-then (λ v. word_of v message_size) out ts (space message_size) _ _ n e refl refl
 
   written_then : (w : Writing) → verdict_of_writing w ≡ verdict ts → Word frame_size (ts ++ space frame_size) out (written_word w (length out)) (written_into w out)
-  written_then (writer.Written f) e = answered-then (λ v. word_of v frame_size) out ts (space frame_size) _ _ e (lays out (frame_bytes f))
-  written_then (writer.Refused n) e = refused-then (λ v. word_of v frame_size) out ts (space frame_size) _ _ n e refl refl
+  written_then (Ok f) e = answered-then (λ v. word_of v frame_size) out ts (space frame_size) _ _ e (lays out (frame_bytes f))
+  written_then (Err n) e = refused-then (λ v. word_of v frame_size) out ts (space frame_size) _ _ n e refl refl
 
 module _ (kind : ℕ) (out : List ℕ) where
   nothing_order : (b : Bool) → Word frame_size (b or bad_type ∷ false or not_listed ∷ []) out (refused_word (unless b bad_type not_listed)) out
@@ -107,8 +97,8 @@ module _ (kind : ℕ) (out : List ℕ) where
 
   held_order :
       (x : Held) → Word frame_size (among kind handed_types or bad_type ∷ held_tests kind x (length out)) out (held_word kind x (length out)) (held_into kind x out)
-  held_order (Holds a m) = written_then (writer_order kind m) out (writing kind a m) (writes kind a m)
-  held_order Nothing = nothing_order (among kind handed_types)
+  held_order (Some (a, m)) = written_then (writer_order kind m) out (writing kind a m) (writes kind a m)
+  held_order None = nothing_order (among kind handed_types)
 
   write_order_lem : (message : List ℕ) → Word frame_size (write_order kind message (length out)) out (write_word kind message (length out)) (write_into kind message out)
   unfolding write_word write_into
@@ -124,13 +114,13 @@ of_refusal : (number byte : ℕ) → number < 256 → (refused_word (code_at num
 of_refusal number byte h = (omega arith, omega arith)
 
 outcome-word : (o : Outcome) → outcome_word o ≡ word_of (verdict_of_outcome o) 0
-outcome-word outcome.Done = refl
-outcome-word (outcome.Refused n) = refl
+outcome-word (Ok tt) = refl
+outcome-word (Err n) = refl
 
 answer_word_lem : (x : Answer) → answer_word x ≡ word_of (verdict_of_answer x) (value_of x % values)
-answer_word_lem (answer.Value v) = refl
-answer_word_lem answer.NotHeard = refl
-answer_word_lem (answer.Refused n) = refl
+answer_word_lem (Ok (Some v)) = refl
+answer_word_lem (Ok None) = refl
+answer_word_lem (Err n) = refl
 
 pub words : Words
 words =

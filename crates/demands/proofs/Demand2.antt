@@ -1,11 +1,10 @@
 -- Demand 2, as specs/Demand2.antt states it. Assumes nothing.
+use Rattle.std.specs.Prelude.{Ok, Err}
 use Prim.Native.Nat.{ℕ, ◌<◌}
 use mathlib.Core.Path.{◌≡◌, refl, sym, ◌∙◌}
-use Rattle.codec.specs.Writing.{writing}
+use Rattle.codec.specs.Writing.{writing, Writing}
 use Rattle.frame.specs.declared.identifiers.Address.{Address}
 use Rattle.frame.specs.declared.messages.Message.{Message}
-use Rattle.codec.specs.declared.writer.Writing.{Writing}
-use Rattle.codec.specs.declared.writer.Writing.TheVariants.{Written, Refused}
 use Rattle.codec.proofs.Accepted.{every_row, every_request}
 use Rattle.codec.proofs.Everything.{every_frame}
 use Rattle.codec.proofs.RoundTrip.{read_then_written, written_then_read, one_frame}
@@ -25,8 +24,8 @@ use Rattle.demands.proofs.Orders.{answers_refuses}
 use Rattle.demands.proofs.FrameOrders.{writes}
 
 written_back : (kind : ℕ) (a : Address) (m : Message) → a.0 < addresses → (w : Writing) → writing kind a m ≡ w → verdict_of_writing w ≡ answers → ReadsBack kind a m
-written_back kind a m h (Written f) e q = record { frame = f; written = e; read = written_then_read kind a m f h e }
-written_back kind a m h (Refused n) e q = answers_refuses (sym q)
+written_back kind a m h (Ok f) e q = record { frame = f; written = e; read = written_then_read kind a m f h e }
+written_back kind a m h (Err n) e q = answers_refuses (sym q)
 
 legal_is_written : LegalIsWritten
 legal_is_written kind a m h e = written_back kind a m h (writing kind a m) refl (writes kind a m ∙ e)

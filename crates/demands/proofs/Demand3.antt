@@ -1,11 +1,11 @@
 -- Demand 3, as specs/Demand3.antt states it. Assumes nothing.
+use Rattle.shape.specs.Answers.{Outcome}
+use Rattle.std.specs.Prelude.{Ok, Err, Some, None}
 use Prim.Native.Nat.{ℕ, zero, suc, ◌+◌, ◌-◌, ◌<◌, ◌≤◌}
 use native.Mathlib.Omega.{arith}
 use mathlib.Core.Path.{◌≡◌, refl, ap, ◌∙◌}
 use mathlib.Core.List.{List, map}
 use lib.ListN.{length, take, drop}
-use Rattle.shape.specs.declared.answers.Outcome.{Outcome}
-use Rattle.shape.specs.declared.answers.Outcome.TheVariants.{Done, Refused}
 use Rattle.shape.specs.Layout.{size}
 use Rattle.picture.specs.Hearing.{hearing}
 use Rattle.history.specs.Standing.{Frame, Event, hear, back, deepest, kept, outcome_of, granted, answered}
@@ -18,21 +18,20 @@ use Rattle.history.proofs.Effects.{back_over, room_used_again}
 use Rattle.questions.proofs.RowBytes.{rows_are_bytes}
 use Rattle.questions.proofs.Counts.{count_is_of_row}
 use Rattle.history.proofs.Names.{whole_is_sixteen}
-use Rattle.recording.specs.declared.records.Entry.{Entry}
-use Rattle.recording.specs.declared.records.Entry.TheVariants.{Record, End, Broken}
-use Rattle.recording.specs.Record.{read_record}
+use Rattle.recording.specs.Record.{Entry, End, Broken, read_record}
 use Rattle.recording.proofs.Entries.{records_are_whole, only_past_end}
-use Rattle.replay.specs.Replay.{Run, is_done, one, heard_by, run_step, run_from}
+use Rattle.replay.specs.Replay.{Run, is_done, one, heard_by, replayed, run_step, run_from}
+use Rattle.replay.proofs.Runs.{standing, stops}
 use Rattle.replay.proofs.AllTurns.{turns_are_replay}
 use Rattle.replay.proofs.Rooms.{all_is_replay, call_is_turn}
-use Rattle.demands.specs.Demand3.{back_after, Granted, NotGranted, frames_by, frames_from, stop_by, stop_from, fault_of, offset_of, accepting, refusing, counting, RecordingsHeard, Demand3}
+use Rattle.demands.specs.Demand3.{back_after, Granted, NotGranted, frames_by, frames_from, stop_by, stop_from, fault_of, accepting, refusing, counting, RecordingsHeard, Demand3}
 
 -- ---- a step back
 back_answer : (b : List ℕ) → size ≤ length b → (d : ℕ) → d ≤ deepest → (h : List Event) → back_after b d h ≡ outcome_of (granted (kept d h))
 unfolding answered
 back_answer b whole d allowed h = (shows_standing b whole d allowed h).next back
 
-granted_above : (k : ℕ) → 0 < k → outcome_of (granted k) ≡ Done
+granted_above : (k : ℕ) → 0 < k → outcome_of (granted k) ≡ Ok tt
 unfolding outcome_of granted
 granted_above zero h = absurd (omega arith)
 granted_above (suc k) h = refl
@@ -46,12 +45,12 @@ is_not_granted b whole d allowed h e = back_answer b whole d allowed h ∙ ap (�
 
 -- ---- recordings
 accepted_one : (o : Outcome) → one (is_done o) ≡ accepting o
-accepted_one Done = refl
-accepted_one (Refused n) = refl
+accepted_one (Ok tt) = refl
+accepted_one (Err n) = refl
 
 refused-one : (o : Outcome) → 1 - one (is_done o) ≡ refusing o
-refused-one Done = refl
-refused-one (Refused n) = refl
+refused-one (Ok tt) = refl
+refused-one (Err n) = refl
 
 -- a run over records is their frames heard, and its counts are those before it and of these
 record Heard (r : Run) (b : List ℕ) (heard refused : ℕ) (fs : List Frame) : Type 0 where
@@ -68,21 +67,20 @@ module _ (s : List ℕ) where
       by-entry : (rest : List ℕ → ℕ → ℕ → ℕ → Run) (frames : ℕ → List Frame)
           → ((b : List ℕ) (heard refused next : ℕ) → Heard (rest b heard refused next) b heard refused (frames next))
           → (b : List ℕ) (heard refused at : ℕ) (e : Entry) → Heard (run_step heard_by rest s b heard refused at e) b heard refused (frames_by frames s e)
-      by-entry rest frames f b heard refused at (Record gap identifier remote start len next) =
-          let r = hearing b identifier remote (take len (drop start s)) in
-          let h = f r.buffer (heard + one (is_done r.outcome)) (refused + (1 - one (is_done r.outcome))) next in
+      by-entry rest frames f b heard refused at (Ok (Some r)) =
+          let a = hearing b r.identifier r.remote (take r.len (drop r.start s)) in
+          let h = f a.buffer (heard + one (is_done a.outcome)) (refused + (1 - one (is_done a.outcome))) r.next in
           record {
             picture = h.picture;
-            heard_is = omega (arith, h.heard_is, accepted_one r.outcome);
-            refused_is = omega (arith, h.refused_is, refused-one r.outcome);
+            heard_is = omega (arith, h.heard_is, accepted_one a.outcome);
+            refused_is = omega (arith, h.refused_is, refused-one a.outcome);
           }
       by-entry rest frames f b heard refused at End = record { picture = refl; heard_is = omega arith; refused_is = omega arith }
-      by-entry rest frames f b heard refused at (Broken refusal offset) = record { picture = refl; heard_is = omega arith; refused_is = omega arith }
+      by-entry rest frames f b heard refused at (Err fault) = record { picture = refl; heard_is = omega arith; refused_is = omega arith }
 
-  -- a run that reaches the end of the records has the number and the offset of what stands there
-  record Stopped (r : Run) (e : Entry) : Type 0 where
-    fault-is : r.replay.refusal ≡ fault_of e
-    offset_is : r.replay.offset ≡ offset_of s e
+  -- a run that reaches the end of the records has the fault that stands there
+  abbrev Stopped : Run → Entry → Type 0
+  Stopped r e = r.replay.fault ≡ fault_of e
 
   stopped_from : (steps : ℕ) (b : List ℕ) (heard refused at : ℕ) → at ≤ length s → length s < steps + at → Stopped (run_from heard_by steps s b heard refused at) (stop_from steps s at)
   unfolding run_from stop_from
@@ -93,17 +91,25 @@ module _ (s : List ℕ) where
       by-entry : (e : Entry) → read_record s at ≡ e
           → ((b : List ℕ) (heard refused next : ℕ) → next ≤ length s → at < next → Stopped (run_from heard_by steps s b heard refused next) (stop_from steps s next))
           → Stopped (run_step heard_by (run_from heard_by steps s) s b heard refused at e) (stop_by (stop_from steps s) e)
-      by-entry (Record gap identifier remote start len next) e again =
-          let w = records_are_whole s at gap identifier remote start len next e in
-          again _ _ _ next w.inside (omega (arith, w.starts, w.ends))
-      by-entry End e again = record { fault-is = refl; offset_is = omega (arith, only_past_end s at e) }
-      by-entry (Broken refusal offset) e again = record { fault-is = refl; offset_is = refl }
+      by-entry (Ok (Some r)) e again =
+          let w = records_are_whole s at r.gap r.identifier r.remote r.start r.len r.next e in
+          again _ _ _ r.next w.inside (omega (arith, w.starts, w.ends))
+      by-entry End e again = refl
+      by-entry (Err fault) e again = refl
+
+  -- one with no fault was read to the end
+  read_whole : (b : List ℕ) → (replayed heard_by b s).replay.fault ≡ None → (replayed heard_by b s).replay.at ≡ length s
+  read_whole b none =
+      let r = (replayed heard_by b s).replay in
+      let t = stops heard_by s b in
+      let past : length s ≤ r.at = only_past_end s r.at (t.there ∙ ap standing none) in
+      omega (arith, t.inside, past)
 
 recordings_heard : RecordingsHeard
 recordings_heard b s =
     let h = heard_from_lem s (suc (length s)) b 0 0 0 in
     let f = stopped_from s (suc (length s)) b 0 0 0 (omega arith) (omega arith) in
-    record { picture = h.picture; heard = omega (arith, h.heard_is); refused = omega (arith, h.refused_is); fault = f.fault-is; offset = f.offset_is }
+    record { picture = h.picture; heard = omega (arith, h.heard_is); refused = omega (arith, h.refused_is); fault = f; whole = read_whole s b }
 
 pub demand_3 : Demand3
 demand_3 =

@@ -1,11 +1,17 @@
 -- No promise leaves a choice, as specs/Determined.antt states it: one law for every line. Assumes nothing.
 use Rattle.laws.proofs.Promises.{of_answer, of_lent, of_two_lent, no_choice}
 use Rattle.demands.specs.Determined.{Determined}
+use Rattle.demands.proofs.Codes.{one_code, one_result, one_record, one_replay, one_part}
 
 pub determined : Determined
 determined =
     record {
       no_choice = no_choice;
+      one_code = one_code;
+      one_result = one_result;
+      one_record = one_record;
+      one_replay = one_replay;
+      one_part = one_part;
       copy_in = λ out at bytes. of_answer _;
       put_at = λ s i v. of_answer _;
       put_number = λ out at v. of_lent _ _;

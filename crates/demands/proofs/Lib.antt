@@ -12,3 +12,4 @@ pub mod Determined
 pub mod Demand2
 pub mod Demand3
 pub mod Plan
+pub mod Codes

@@ -1,4 +1,6 @@
 -- The orders of hearing, of stepping back and of a fresh picture. Assumes nothing.
+use Rattle.shape.specs.Answers.{Outcome}
+use Rattle.std.specs.Prelude.{Ok, Err}
 use Prim.Native.Nat.{ℕ}
 use mathlib.Core.Path.{◌≡◌, refl, ◌∙◌}
 use mathlib.Core.List.{List, [], ◌∷◌}
@@ -9,11 +11,8 @@ use Rattle.laws.specs.Refusals.{no_room, nothing_kept, no_such_place, too_short}
 use Rattle.kinds.specs.Types.{long_type, row_for}
 use Rattle.frame.specs.Bytes.{byte}
 use Rattle.frame.specs.Messages.{type_command}
-use Rattle.judging.specs.Reading.{reading}
+use Rattle.judging.specs.Reading.{reading, Reading}
 use Rattle.frame.specs.declared.messages.Command.TheVariants.{TypeLong, TypeShort}
-use Rattle.frame.specs.declared.messages.Reading.{Reading}
-use Rattle.shape.specs.declared.answers.Outcome.{Outcome}
-use Rattle.shape.specs.declared.answers.Outcome.TheVariants as outcome
 use Rattle.shape.specs.Limits.{room, most_depth, bus_address}
 use Rattle.places.specs.Runs.{Run, meaning_of, meant, read_as, command_of}
 use Rattle.shape.specs.Result.{Result, refusing, done}
@@ -32,9 +31,9 @@ use Rattle.demands.specs.Demand1.{verdict_of_outcome, Call, Pictures}
 use Rattle.demands.proofs.Orders.{answers_refuses, call_fault, call_done, answer-fault}
 use Rattle.demands.proofs.FrameOrders.{reader_order_lem}
 
-refused_is : (o : Outcome) (n : ℕ) → verdict_of_outcome o ≡ refuses n → o ≡ outcome.Refused n
-refused_is outcome.Done n e = answers_refuses e
-refused_is (outcome.Refused m) n e = cc
+refused_is : (o : Outcome) (n : ℕ) → verdict_of_outcome o ≡ refuses n → o ≡ Err n
+refused_is (Ok tt) n e = answers_refuses e
+refused_is (Err m) n e = cc
 
 event_keeps : (e : Event) (b : List ℕ) (ts : List Test) → verdict_of_outcome (doing e b).outcome ≡ verdict ts → Call ts b (doing e b)
 event_keeps e b ts d = record { decides = d; keeps = λ n q. refused_keeps e b n (refused_is (doing e b).outcome n (d ∙ q)) }

@@ -1,4 +1,5 @@
 -- The plan of fewest reads, as specs/Plan.antt states it. Assumes nothing.
+use Rattle.std.specs.Prelude.{Ok, Some, None, Err}
 use Prim.Native.Nat.{ℕ, suc, ◌+◌, ◌-◌, ◌≤◌, ◌<◌}
 use native.Mathlib.Omega.{arith}
 use native.Mathlib.Decide.{dec_lt}
@@ -16,9 +17,7 @@ use Rattle.kinds.specs.Types.{cells_of, extent_of}
 use Rattle.frame.specs.declared.messages.Command.{Command}
 use Rattle.frame.specs.declared.messages.Command.TheVariants.{BlockTold}
 use Rattle.frame.specs.declared.messages.Message.TheVariants.{Tells}
-use Rattle.shape.specs.declared.answers.Answer.{Answer}
-use Rattle.shape.specs.declared.answers.Answer.TheVariants.{Value, NotHeard, Refused}
-use Rattle.shape.specs.declared.answers.Outcome.TheVariants.{Done}
+use Rattle.shape.specs.Answers.{Answer}
 use Rattle.shape.specs.Limits.{room}
 use Rattle.places.specs.Places.{cell_place}
 use Rattle.shape.specs.Layout.{size}
@@ -27,7 +26,7 @@ use Rattle.places.specs.Runs.{Saying, tells, Run, said, telling, meaning_of, mea
 use Rattle.questions.specs.Question.{type_of, cell, Reply, value, refusing}
 use Rattle.questions.specs.Replies.{slot_asked, reply_as, reply_in, reply}
 use Rattle.history.specs.Standing.{Frame, address, Known, unknown, told, after, sense, standing_type, latest, Event, hear, deepest, standing}
-use Rattle.history.specs.Asked.{answer_of, told_if, told_as, told_reply}
+use Rattle.history.specs.Asked.{answer_of, told_as, told_reply}
 use Rattle.history.specs.Demand3.{doing, run_bytes, runs_bytes}
 use Rattle.history.specs.Effects.{HeardAs}
 use Rattle.history.specs.Speaks.{tells_of, Just, Spoken}
@@ -45,10 +44,10 @@ use Rattle.plan.proofs.Calls.{row_is_memory, unknown_is_not_heard, row_of_type, 
 use Rattle.demands.specs.Plan.{ReplyTo, RepliesTo, hearing, AllAccepted, AllTold, Pays, PlanPays, Plan}
 
 -- an answer that is a value is no other
-not_value : {A : Type 0} (v : ℕ) → NotHeard ≡ Value v → A
+not_value : {A : Type 0} (v : ℕ) → ◌≡◌ {A = Answer} (Ok None) (Ok (Some v)) → A
 not_value v e = absurd (let z : ◌≡◌ {A = ℕ} 0 1 = cc in omega arith)
 
-refused_not : {A : Type 0} (n v : ℕ) → Refused n ≡ Value v → A
+refused_not : {A : Type 0} (n v : ℕ) → ◌≡◌ {A = Answer} (Err n) (Ok (Some v)) → A
 refused_not n v e = absurd (let z : ◌≡◌ {A = ℕ} 0 1 = cc in omega arith)
 
 -- ---- a picture that answers the question on a type
@@ -57,31 +56,31 @@ record Listed (b : List ℕ) (a kind : ℕ) : Type 0 where
   slot : slot_asked b a < room
   type : kind_in b (slot_asked b a) ≡ kind
 
-listed : (b : List ℕ) (a kind : ℕ) → (reply b a type_of []).answer ≡ Value kind → Listed b a kind
+listed : (b : List ℕ) (a kind : ℕ) → (reply b a type_of []).answer ≡ Ok (Some kind) → Listed b a kind
 unfolding reply reply_in reply_as
 listed b a kind = go (short b) (ltb (slot_asked b a) room) refl refl
   where
     go : (s t : Bool) → short b ≡ s → ltb (slot_asked b a) room ≡ t
-        → (cond s (refusing too_short []) (cond t (value (kind_in b (slot_asked b a)) []) (refusing type_not_known []))).answer ≡ Value kind → Listed b a kind
+        → (cond s (refusing too_short []) (cond t (value (kind_in b (slot_asked b a)) []) (refusing type_not_known []))).answer ≡ Ok (Some kind) → Listed b a kind
     go true t p q e = refused_not too_short kind e
     go false true p q e = record { long = ltb-false (length b) size p; slot = ltb-true (slot_asked b a) room q; type = cc }
     go false false p q e = refused_not type_not_known kind e
 
 -- the question on a cell is answered by a value
 abbrev Told : ℕ → List ℕ → ℕ → Type 0
-Told a picture c = (v : ℕ) × ((reply picture a (cell c) []).answer ≡ Value v)
+Told a picture c = (v : ℕ) × ((reply picture a (cell c) []).answer ≡ Ok (Some v))
 
 module _ (b : List ℕ) (whole : size ≤ length b) (d : ℕ) (allowed : d ≤ deepest) (a kind : ℕ) where
   -- the answer to the question on a cell after the events
   abbrev cell_after : List Event → ℕ → Answer
   cell_after h c = (reply (run_bytes b d h) a (cell c) []).answer
 
-  type_by : (h : List Event) (t : Option ℕ) → standing_type (standing d h) a ≡ t → (told_reply t (latest (standing d h) a) type_of []).answer ≡ Value kind → standing_type (standing d h) a ≡ some kind
+  type_by : (h : List Event) (t : Option ℕ) → standing_type (standing d h) a ≡ t → (told_reply t (latest (standing d h) a) type_of []).answer ≡ Ok (Some kind) → standing_type (standing d h) a ≡ some kind
   unfolding told_reply told_as
   type_by h none e q = refused_not type_not_known kind q
   type_by h (some k) e q = let same : k ≡ kind = cc in e ∙ ap some same
 
-  type_known : (h : List Event) → (reply (run_bytes b d h) a type_of []).answer ≡ Value kind → standing_type (standing d h) a ≡ some kind
+  type_known : (h : List Event) → (reply (run_bytes b d h) a type_of []).answer ≡ Ok (Some kind) → standing_type (standing d h) a ≡ some kind
   type_known h e = type_by h (standing_type (standing d h) a) refl (sym (ap (λ (r : Reply). r.answer) ((demand_3 b whole d allowed h).each a type_of [])) ∙ e)
 
   cell-by : (t : Option ℕ) (known : ℕ → Known) (c : ℕ) → t ≡ some kind → c < cells_of kind → (told_reply t known (cell c) []).answer ≡ answer_of (known (cell_place kind c))
@@ -100,7 +99,7 @@ module _ (b : List ℕ) (whole : size ≤ length b) (d : ℕ) (allowed : d ≤ d
     unfolding sense meaning_of command run
     heard = hears_command b whole d allowed h f kind command run (ap (standing_type (standing d h)) r.at ∙ here) r.read refl
 
-    accepted : (doing (hear f) (run_bytes b d h)).outcome ≡ Done
+    accepted : (doing (hear f) (run_bytes b d h)).outcome ≡ Ok tt
     accepted = heard.answer
 
     still-listed : standing_type (standing d (hear f ∷ h)) a ≡ some kind
@@ -190,7 +189,7 @@ module _ (b : List ℕ) (whole : size ≤ length b) (d : ℕ) (allowed : d ≤ d
       (after-told ss fs (hear f ∷ h) (still-listed h here s f rs.0) rs.1 c l x)
 
   -- ---- the plan
-  module _ (h : List Event) (bytes : AllBytes (run_bytes b d h)) (asked : (reply (run_bytes b d h) a type_of []).answer ≡ Value kind) where
+  module _ (h : List Event) (bytes : AllBytes (run_bytes b d h)) (asked : (reply (run_bytes b d h) a type_of []).answer ≡ Ok (Some kind)) where
     abbrev row : List ℕ
     row = memory_in (run_bytes b d h) (slot_asked (run_bytes b d h) a)
 
@@ -226,10 +225,10 @@ module _ (b : List ℕ) (whole : size ≤ length b) (d : ℕ) (allowed : d ≤ d
     covered : (starts : List ℕ) (fs : List Frame) → RepliesTo kind a starts fs → AllTold (hearing (run_bytes b d h) fs) a kind → Covers row starts
     covered starts fs rs all c u =
         let l : c < cells_of kind = omega (arith, inside row c u, row-cells) in
-        let silent : cell_after h c ≡ NotHeard = (unknown_is_not_heard (run_bytes b d h) bytes there.long a there.slot c (inside row c u) []).0 u in
+        let silent : cell_after h c ≡ Ok None = (unknown_is_not_heard (run_bytes b d h) bytes there.long a there.slot c (inside row c u) []).0 u in
         ⊎_elim (λ t. not_value t.0 (sym silent ∙ t.1)) (λ r. r) (after-told starts fs h here rs c l (all c l))
 
-    module _ (out : List ℕ) (count : ℕ) (given : (plan_reply (run_bytes b d h) a out).answer ≡ Value count) where
+    module _ (out : List ℕ) (count : ℕ) (given : (plan_reply (run_bytes b d h) a out).answer ≡ Ok (Some count)) where
       as-plan : take count (plan_reply (run_bytes b d h) a out).buffer ≡ plan_of row
       as-plan = (written_is_plan (run_bytes b d h) a out count given).plan
 

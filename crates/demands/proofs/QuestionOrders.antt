@@ -7,7 +7,7 @@ use lib.Dec.{eqb, ltb, leb}
 use lib.ListN.{length, get_or}
 use Rattle.laws.specs.Refusals.{type_not_known, no_such_place, too_short}
 use Rattle.kinds.specs.Types.{extent_of}
-use Rattle.shape.specs.declared.answers.Answer.TheVariants.{Value, NotHeard, Refused}
+use Rattle.std.specs.Prelude.{Some, None, Ok, Err}
 use Rattle.shape.specs.Limits.{room, addresses}
 use Rattle.places.specs.Places.{places, name_length, year_place, week_place, cell_asked, led_asked, blind_asked, has_name, row_of_name, cell_row}
 use Rattle.shape.specs.Layout.{place_at}
@@ -31,7 +31,7 @@ fills v f n out = reply_test out too_short [] _ (leb n (length out)) (reply-done
 
 kept_order : (b : List ℕ) → verdict_of_answer (kept_answer b) ≡ verdict (picture_test b ∷ [])
 unfolding kept_answer
-kept_order b = answer-fault verdict_of_answer too_short [] _ (Refused too_short) refl refl (short b)
+kept_order b = answer-fault verdict_of_answer too_short [] _ (Err too_short) refl refl (short b)
 
 listed_order_lem : (b out : List ℕ) → Replied (listed_order b out) out (listing b out)
 unfolding listing
@@ -43,7 +43,7 @@ module _ (b : List ℕ) (s kind : ℕ) (out : List ℕ) where
   place-answered : (o : ℕ) → Replied [] out (answering (answer_at b o) out)
   place-answered o = record { decides = go (eqb (get_or b o 0) 0 && eqb (get_or b (o + 1) 0) 1); keeps = λ n e. answers_refuses e }
     where
-      go : (t : Bool) → verdict_of_answer (cond t NotHeard (Value (value_at b o))) ≡ answers
+      go : (t : Bool) → verdict_of_answer (cond t (Ok None) (Ok (Some (value_at b o)))) ≡ answers
       go true = refl
       go false = refl
 

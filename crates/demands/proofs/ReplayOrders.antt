@@ -7,9 +7,7 @@ use lib.Dec.{leb}
 use lib.ListN.{length, drop}
 use Rattle.laws.specs.Refusals.{too_short}
 use Rattle.shape.specs.Head.{short}
-use Rattle.recorder.specs.declared.writes.Put.TheVariants as put
-use Rattle.replay.specs.declared.records.Replayed.TheVariants as answered
-use Rattle.replay.specs.declared.window.Part.TheVariants as part
+use Rattle.std.specs.Prelude.{Ok, Err}
 use Rattle.replay.specs.Replay.{heard_by, replayed, replay_answer, replay_picture, with_room}
 use Rattle.replay.specs.Window.{turn_over, heard_stream, heard_window, part_answer, part_picture, part_window}
 use Rattle.texts.specs.Listing.{listing_text, listing_answer, listing_bytes}
@@ -34,12 +32,12 @@ replaying =
     record {
       hear_all = λ b s.
           by-fault (λ v. v) b too_short []
-          (λ c. verdict_of_replayed (cond c (answered.Refused too_short) (answered.Heard (replayed heard_by b s).replay))) (λ c. cond c b (replayed heard_by b s).picture)
+          (λ c. verdict_of_replayed (cond c (Err too_short) (Ok (replayed heard_by b s).replay))) (λ c. cond c b (replayed heard_by b s).picture)
           (short b)
           (record { decides = refl; keeps = λ n e. answers_refuses e }) refl refl;
-      hear_part = λ b w st n. with_room_lem of_part b b (st.left + n) (length w) (part.Refused too_short) (part.Heard (heard_stream heard_by b w st n)) (turn_over heard_by b w st n).picture refl refl;
-      window = λ b w st n. with_room_lem of_part b w (st.left + n) (length w) (part.Refused too_short) (part.Heard (heard_stream heard_by b w st n)) (heard_window heard_by b w st n) refl refl;
+      hear_part = λ b w st n. with_room_lem of_part b b (st.left + n) (length w) (Err too_short) (Ok (heard_stream heard_by b w st n)) (turn_over heard_by b w st n).picture refl refl;
+      window = λ b w st n. with_room_lem of_part b w (st.left + n) (length w) (Err too_short) (Ok (heard_stream heard_by b w st n)) (heard_window heard_by b w st n) refl refl;
       put_listing = λ b out st.
           let text : List ℕ = listing_text b st in
-          with_room_lem verdict_of_put b out (length text) (length out) (put.Refused too_short) (put.Wrote (length text)) (text ++ drop (length text) out) refl refl;
+          with_room_lem verdict_of_put b out (length text) (length out) (Err too_short) (Ok (length text)) (text ++ drop (length text) out) refl refl;
     }

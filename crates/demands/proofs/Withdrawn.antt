@@ -1,4 +1,6 @@
 -- No answer of any call is 14, as specs/Withdrawn.antt states it: no test of any order has that number. Assumes nothing.
+use Rattle.layouts.specs.Parts.{Held}
+use Rattle.std.specs.Prelude.{Some, None}
 use Prim.Native.Nat.{ℕ, ◌+◌, ◌*◌, ◌/◌, ◌%◌, ◌<◌, ◌≤◌}
 use native.Mathlib.Omega.{arith}
 use mathlib.Core.Path.{◌≡◌, refl, ap, ◌∙◌}
@@ -22,8 +24,6 @@ use Rattle.questions.specs.Question.{Question, type_of, build_year, build_week, 
 use Rattle.questions.specs.Replies.{slot_asked}
 use Rattle.recording.proofs.Entries.{faults_are_placed}
 use Rattle.codec.specs.Writing.{frame_size}
-use Rattle.layouts.specs.declared.parts.Held.{Held}
-use Rattle.layouts.specs.declared.parts.Held.TheVariants.{Holds, Nothing}
 use Rattle.results.specs.Words.{values}
 use Rattle.layouts.specs.Layout.{message_size, held_in}
 use Rattle.demands.specs.Order.{Test, ◌or◌, Verdict, answers, refuses, verdict, frame_order, reader_order, message_tests, writer_order, picture_test, fresh_order, room_test, kind_heard, hearing_order, back_order, listed_order, question_tests, question_order, right_order, plan_order, put_order, replay_order, part_order, listing_order, read_order, held_tests, write_order}
@@ -86,8 +86,8 @@ questions b s kind memory_row out = refl
 questions b s kind memory_bytes out = refl
 
 held : (kind : ℕ) (x : Held) (space : ℕ) → absent (held_tests kind x space) ≡ true
-held kind (Holds a m) space = then (message_tests kind m) (leb frame_size space or too_short ∷ []) (messages kind m) refl
-held kind Nothing space = refl
+held kind (Some (a, m)) space = then (message_tests kind m) (leb frame_size space or too_short ∷ []) (messages kind m) refl
+held kind None space = refl
 
 fault-number : (n at refusal offset : ℕ) → ((refusal ≡ cut_off) × (offset ≡ n)) ⊎ ((refusal ≡ bad_number) × (at ≤ offset) × (offset < n)) → refusal ≢ not_whole
 fault-number n at refusal offset (inl e) = λ q. absurd (omega (arith, e.0))

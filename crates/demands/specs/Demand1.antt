@@ -1,20 +1,15 @@
 -- Demand 1: any identifier, remote flag, data, recording or question is given an answer or the one refusal number that the rules give; a refused
 -- call alters nothing that was handed over. The proofs are proofs/FrameOrders.antt, PictureOrders.antt, QuestionOrders.antt, BenchOrders.antt, CallOrders.antt,
 -- ReplayOrders.antt and, of the whole, Demand1.antt.
-use Rattle.std.specs.Prelude.{ℕ, ◌*◌, ◌/◌, ◌%◌, ◌<◌, ◌≡◌, ◌≢◌, List, [], ◌∷◌, length}
+use Rattle.std.specs.Prelude.{ℕ, ◌*◌, ◌/◌, ◌%◌, ◌<◌, ◌≡◌, ◌≢◌, List, [], ◌∷◌, length, Result, Some, None, Ok, Err}
 use Rattle.laws.specs.Answers as numbers
 use Rattle.laws.specs.Refusals.{code_at}
-use Rattle.judging.specs.Reading.{reading, reading_numbers}
-use Rattle.codec.specs.Writing.{writing, writing_numbers, frame_size}
+use Rattle.judging.specs.Reading.{reading, reading_numbers, Reading}
+use Rattle.codec.specs.Writing.{writing, writing_numbers, frame_size, Writing}
 use Rattle.frame.specs.declared.identifiers.Address.{Address}
 use Rattle.frame.specs.declared.messages.Message.{Message}
-use Rattle.frame.specs.declared.messages.Reading.{Reading}
-use Rattle.codec.specs.declared.writer.Writing.{Writing}
-use Rattle.shape.specs.declared.answers.Outcome.{Outcome}
-use Rattle.shape.specs.declared.answers.Answer.{Answer}
-use Rattle.shape.specs.declared.answers.Answer.TheVariants as answer
-use Rattle.shape.specs.Answers.{outcome_numbers, answer_numbers}
-use Rattle.shape.specs.Result.{Result}
+use Rattle.shape.specs.Answers.{outcome_numbers, answer_numbers, Outcome, Answer}
+use Rattle.shape.specs.Result.{Result as CallResult}
 use Rattle.picture.specs.Hearing.{hearing}
 use Rattle.stores.specs.Stepping.{stepping_back}
 use Rattle.steering.specs.Fresh.{freshening_with, freshening}
@@ -22,17 +17,12 @@ use Rattle.questions.specs.Question.{Question, Reply}
 use Rattle.questions.specs.Replies.{slot_asked, kept_answer, listing, reply}
 use Rattle.reads.specs.Plan.{least_reads}
 use Rattle.plan.specs.Replies.{memory_in, plan_reply, plan_bytes_reply, right_answer, right_bytes_answer}
-use Rattle.taking.specs.declared.taking.Taken.{Taken}
 use Rattle.bench.specs.Making.{making}
-use Rattle.taking.specs.Taking.{taken_numbers, taking}
-use Rattle.recorder.specs.declared.writes.Put.{Put}
+use Rattle.taking.specs.Taking.{taken_numbers, taking, Taken}
 use Rattle.recorder.specs.Write.{record_bytes, put_numbers, put_answer, put_bytes}
 use Rattle.recording.specs.Statements.{RecordsAreWhole, FaultsArePlaced, FaultIsCertain, CutCanBeMended, MendableIsCut, WindowSettles, OldRecordingsRead}
-use Rattle.replay.specs.declared.records.Replayed.{Replayed}
-use Rattle.replay.specs.declared.window.Part.{Part}
-use Rattle.replay.specs.declared.window.Stream.{Stream}
-use Rattle.replay.specs.Replay.{replayed_numbers, replay_answer, replay_picture}
-use Rattle.replay.specs.Window.{part_numbers, part_answer, part_picture, part_window}
+use Rattle.replay.specs.Replay.{Replay, replayed_numbers, replay_answer, replay_picture}
+use Rattle.replay.specs.Window.{Stream, part_numbers, part_answer, part_picture, part_window}
 use Rattle.texts.specs.Listing.{listing_text, listing_answer, listing_bytes}
 use Rattle.results.specs.Words.{values, refused_word, outcome_word, answer_word}
 use Rattle.velbus.specs.Recordings.{put_word}
@@ -57,16 +47,16 @@ verdict_of_outcome o = verdict_of (outcome_numbers o)
 abbrev pub verdict_of_answer : Answer → Verdict
 verdict_of_answer a = verdict_of (answer_numbers a)
 
-abbrev pub verdict_of_put : Put → Verdict
+abbrev pub verdict_of_put : Result ℕ ℕ → Verdict
 verdict_of_put p = verdict_of (put_numbers p)
 
 abbrev pub verdict_of_taken : Taken → Verdict
 verdict_of_taken t = verdict_of (taken_numbers t)
 
-abbrev pub verdict_of_replayed : Replayed → Verdict
+abbrev pub verdict_of_replayed : Result Replay ℕ → Verdict
 verdict_of_replayed r = verdict_of (replayed_numbers r)
 
-abbrev pub of_part : Part → Verdict
+abbrev pub of_part : Result Stream ℕ → Verdict
 of_part p = verdict_of (part_numbers p)
 
 -- and as the word that C is given: a value, or the refusal
@@ -76,9 +66,9 @@ word_of (refuses n) value = refused_word n
 
 -- the value of an answer that is a number
 abbrev pub value_of : Answer → ℕ
-value_of (answer.Value v) = v
-value_of answer.NotHeard = 256
-value_of (answer.Refused n) = 0
+value_of (Ok (Some v)) = v
+value_of (Ok None) = 256
+value_of (Err n) = 0
 
 -- ---- calls that are lent a buffer
 -- what is given is what the verdict of the call's tests says, and a refusal leaves the buffer as it was
@@ -90,7 +80,7 @@ pub record Decided {B : Type 0} (says : Verdict → B) (tests : List Test) (befo
 abbrev pub Verdicts : List Test → List ℕ → Verdict → List ℕ → Type 0
 Verdicts tests before given after = Decided (λ v. v) tests before given after
 
-abbrev pub Call : List Test → List ℕ → Result → Type 0
+abbrev pub Call : List Test → List ℕ → CallResult → Type 0
 Call tests before r = Verdicts tests before (verdict_of_outcome r.outcome) r.buffer
 
 abbrev pub Replied : List Test → List ℕ → Reply → Type 0

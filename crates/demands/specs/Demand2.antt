@@ -1,6 +1,6 @@
 -- Demand 2: frames are read and written as the module documents define them; read-then-written is the same frame; every legal message written reads
 -- back as itself; an accepted frame has its defined effect on the addressed module and on no other. The proof is proofs/Demand2.antt.
-use Rattle.std.specs.Prelude.{ℕ, ◌<◌, ◌≡◌}
+use Rattle.std.specs.Prelude.{ℕ, ◌<◌, ◌≡◌, Ok}
 use Rattle.frame.specs.Bytes.{data_bytes}
 use Rattle.judging.specs.Reading.{reading}
 use Rattle.codec.specs.Writing.{writing}
@@ -8,9 +8,7 @@ use Rattle.codec.specs.Statements.{ReadThenWritten, WrittenThenRead, OneFrame, E
 use Rattle.repair.specs.Beyond.{FirstBeyondRepair}
 use Rattle.frame.specs.declared.identifiers.Address.{Address}
 use Rattle.frame.specs.declared.messages.Message.{Message}
-use Rattle.frame.specs.declared.messages.Reading.TheVariants.{Read}
 use Rattle.codec.specs.declared.writer.Frame.{Frame}
-use Rattle.codec.specs.declared.writer.Writing.TheVariants.{Written}
 use Rattle.shape.specs.Limits.{addresses}
 use Rattle.places.specs.Fitting.{RunsLie, RunsFit}
 use Rattle.places.specs.Apart.{Apart, Inside}
@@ -24,8 +22,8 @@ use Rattle.demands.specs.Order.{answers, verdict, writer_order}
 -- the message is written as a frame, and that reads back as the message
 pub record ReadsBack (kind : ℕ) (a : Address) (m : Message) : Type 0 where
   pub frame : Frame
-  pub written : writing kind a m ≡ Written frame
-  pub read : reading kind frame.identifier frame.remote (data_bytes frame.bytes) ≡ Read a m
+  pub written : writing kind a m ≡ Ok frame
+  pub read : reading kind frame.identifier frame.remote (data_bytes frame.bytes) ≡ Ok (a, m)
 
 -- a message is legal where the writer's order has nothing against it
 abbrev pub LegalIsWritten : Type 0

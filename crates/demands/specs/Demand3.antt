@@ -1,9 +1,8 @@
 -- Demand 3: after any run of frames and steps back, the picture shows exactly what the standing frames tell, place by place, unknown where none does; a
 -- step back is granted exactly while the kept count is above zero, which is capped by the depth that the fresh picture named. The proof is proofs/Demand3.antt.
-use Rattle.std.specs.Prelude.{ℕ, zero, suc, ◌+◌, ◌<◌, ◌≤◌, ◌≡◌, List, [], ◌∷◌, map, length, take, drop}
+use Rattle.shape.specs.Answers.{Outcome}
+use Rattle.std.specs.Prelude.{ℕ, zero, suc, ◌+◌, ◌<◌, ◌≤◌, ◌≡◌, List, [], ◌∷◌, map, length, take, drop, Ok, Err, Some, Option, None}
 use Rattle.laws.specs.Refusals.{nothing_kept}
-use Rattle.shape.specs.declared.answers.Outcome.{Outcome}
-use Rattle.shape.specs.declared.answers.Outcome.TheVariants.{Done, Refused}
 use Rattle.shape.specs.Layout.{size}
 use Rattle.history.specs.Standing.{Frame, Event, hear, back, deepest, kept}
 use Rattle.history.specs.Names.{WholeIsSixteen}
@@ -12,9 +11,7 @@ use Rattle.history.specs.Depth.{DepthsNamed, KeptToDepth, NoneAtZero}
 use Rattle.history.specs.Sentence.{Sentence, SentenceDecides}
 use Rattle.history.specs.Effects.{BackOver, RoomUsedAgain}
 use Rattle.questions.specs.Statements.{RowsAreBytes, CountIsOfRow}
-use Rattle.recording.specs.declared.records.Entry.{Entry}
-use Rattle.recording.specs.declared.records.Entry.TheVariants.{Record, End, Broken}
-use Rattle.recording.specs.Record.{read_record}
+use Rattle.recording.specs.Record.{Entry, End, read_record}
 use Rattle.replay.specs.Replay.{heard_by, replayed}
 use Rattle.replay.specs.Statements.{TurnsAreReplay, AllIsReplay, CallIsTurn}
 
@@ -23,17 +20,17 @@ abbrev pub back_after : List ℕ → ℕ → List Event → Outcome
 back_after b d h = (doing back (run_bytes b d h)).outcome
 
 abbrev pub Granted : Type 0
-Granted = (b : List ℕ) → size ≤ length b → (d : ℕ) → d ≤ deepest → (h : List Event) → 0 < kept d h → back_after b d h ≡ Done
+Granted = (b : List ℕ) → size ≤ length b → (d : ℕ) → d ≤ deepest → (h : List Event) → 0 < kept d h → back_after b d h ≡ Ok tt
 
 abbrev pub NotGranted : Type 0
-NotGranted = (b : List ℕ) → size ≤ length b → (d : ℕ) → d ≤ deepest → (h : List Event) → kept d h ≡ 0 → back_after b d h ≡ Refused nothing_kept
+NotGranted = (b : List ℕ) → size ≤ length b → (d : ℕ) → d ≤ deepest → (h : List Event) → kept d h ≡ 0 → back_after b d h ≡ Err nothing_kept
 
 -- ---- recordings
 -- the frames of a recording's unbroken records, from the offset `at` on, at most so many
 abbrev pub frames_by : (ℕ → List Frame) → List ℕ → Entry → List Frame
-frames_by rest s (Record gap identifier remote start len next) = record { identifier = identifier; remote = remote; bytes = take len (drop start s) } ∷ rest next
+frames_by rest s (Ok (Some r)) = record { identifier = r.identifier; remote = r.remote; bytes = take r.len (drop r.start s) } ∷ rest r.next
 frames_by rest s End = []
-frames_by rest s (Broken refusal offset) = []
+frames_by rest s (Err fault) = []
 
 unfoldable pub frames_from : ℕ → List ℕ → ℕ → List Frame
 frames_from zero s at = []
@@ -45,9 +42,9 @@ frames_of s = frames_from (suc (length s)) s 0
 
 -- what stands after the unbroken records, from the offset `at` on, at most so many: the end, or the first fault
 abbrev pub stop_by : (ℕ → Entry) → Entry → Entry
-stop_by rest (Record gap identifier remote start len next) = rest next
+stop_by rest (Ok (Some r)) = rest r.next
 stop_by rest End = End
-stop_by rest (Broken refusal offset) = Broken refusal offset
+stop_by rest (Err fault) = Err fault
 
 unfoldable pub stop_from : ℕ → List ℕ → ℕ → Entry
 stop_from zero s at = End
@@ -56,37 +53,32 @@ stop_from (suc steps) s at = stop_by (stop_from steps s) (read_record s at)
 abbrev pub stop_of : List ℕ → Entry
 stop_of s = stop_from (suc (length s)) s 0
 
--- its number, 0 where it is no fault, and its offset, the input's length where it is none
-abbrev pub fault_of : Entry → ℕ
-fault_of (Record gap identifier remote start len next) = 0
-fault_of End = 0
-fault_of (Broken refusal offset) = refusal
-
-abbrev pub offset_of : List ℕ → Entry → ℕ
-offset_of s (Record gap identifier remote start len next) = length s
-offset_of s End = length s
-offset_of s (Broken refusal offset) = offset
+-- its number and its offset, where it is a fault
+abbrev pub fault_of : Entry → Option (ℕ × ℕ)
+fault_of (Ok entry) = None
+fault_of (Err fault) = Some fault
 
 -- how many of the frames are accepted, and how many not, heard one after the other
 abbrev pub accepting : Outcome → ℕ
-accepting Done = 1
-accepting (Refused n) = 0
+accepting (Ok tt) = 1
+accepting (Err n) = 0
 
 abbrev pub refusing : Outcome → ℕ
-refusing Done = 0
-refusing (Refused n) = 1
+refusing (Ok tt) = 0
+refusing (Err n) = 1
 
 unfoldable pub counting : (Outcome → ℕ) → List ℕ → List Frame → ℕ
 counting one b [] = 0
 counting one b (f ∷ fs) = one (doing (hear f) b).outcome + counting one (doing (hear f) b).buffer fs
 
--- a recording replayed is its frames heard; heard and refused count the records so answered; and the fault is the recording's, at its offset
+-- a recording replayed is its frames heard; heard and refused count the records so answered; and the fault is the recording's, at its offset;
+-- where it has none, it was read to its end
 pub record Replays (b s : List ℕ) : Type 0 where
   pub picture : (replayed heard_by b s).picture ≡ runs_bytes b (map hear (frames_of s))
   pub heard : (replayed heard_by b s).replay.heard ≡ counting accepting b (frames_of s)
   pub refused : (replayed heard_by b s).replay.refused ≡ counting refusing b (frames_of s)
-  pub fault : (replayed heard_by b s).replay.refusal ≡ fault_of (stop_of s)
-  pub offset : (replayed heard_by b s).replay.offset ≡ offset_of s (stop_of s)
+  pub fault : (replayed heard_by b s).replay.fault ≡ fault_of (stop_of s)
+  pub whole : (replayed heard_by b s).replay.fault ≡ None → (replayed heard_by b s).replay.at ≡ length s
 
 abbrev pub RecordingsHeard : Type 0
 RecordingsHeard = (b s : List ℕ) → Replays b s

@@ -1,7 +1,10 @@
--- A promise leaves a function no choice: two results that satisfy it are equal. Once for each public function that is lent a buffer: its contract is that
--- the answer and the buffer's final contents are these definitions'. The proof is proofs/Determined.antt.
-use Rattle.std.specs.Prelude.{ℕ, List, length, set}
+-- A promise leaves a function no choice: two results that satisfy it are equal. Once for each public function that is lent a buffer (but for
+-- `inputs`, which reads what no definition knows): its contract is that the answer, in the papers' numbers, and the buffer's final contents are these
+-- definitions'. The proof is proofs/Determined.antt.
+use Rattle.std.specs.Prelude.{ℕ, ◌≡◌, List, length, set, Result as Answered}
+use Rattle.laws.specs.Codes.{code_of, coded}
 use Rattle.laws.specs.Copies.{copied_in}
+use Rattle.laws.specs.declared.refusals.Refusal.{Refusal}
 use Rattle.laws.specs.Promises.{OneAnswer, OneResult, OneOutcome, NoChoice}
 use Rattle.judging.specs.Reading.{reading}
 use Rattle.shape.specs.Result.{Result}
@@ -13,9 +16,12 @@ use Rattle.questions.specs.Replies.{listing, reply}
 use Rattle.plan.specs.Replies.{plan_reply, plan_bytes_reply}
 use Rattle.groups.specs.Write.{put_groups, put_into}
 use Rattle.recorder.specs.Write.{put_answer, put_bytes}
-use Rattle.replay.specs.declared.window.Stream.{Stream}
-use Rattle.replay.specs.Replay.{replay_answer, replay_picture}
-use Rattle.replay.specs.Window.{part_answer, part_picture, part_window}
+use Rattle.recording.specs.Record.{told}
+use Rattle.recording.specs.declared.records.Fault.{Fault}
+use Rattle.replay.specs.declared.records.Replay as code
+use Rattle.replay.specs.declared.window.Stream as part
+use Rattle.replay.specs.Replay.{told_replayed, replay_answer, replay_picture}
+use Rattle.replay.specs.Window.{Stream, told_part, part_answer, part_picture, part_window}
 use Rattle.texts.specs.Listing.{listing_answer, listing_bytes}
 use Rattle.bench.specs.Making.{making}
 use Rattle.taking.specs.Taking.{Outcome, taking}
@@ -37,6 +43,12 @@ OneTaking o = OneOutcome o.answer o.bench o.buffer × OneOutcome (taken_word o.a
 pub record Determined : Type 1 where
   -- whatever the definitions are
   pub no_choice : NoChoice
+  -- and no two answers of the code's own come to one in the paper's numbers
+  pub one_code : (x y : Refusal) → code_of x ≡ code_of y → x ≡ y
+  pub one_result : {A : Type 0} (x y : Answered A Refusal) → coded x ≡ coded y → x ≡ y
+  pub one_record : {A : Type 0} (x y : Answered A Fault) → told x ≡ told y → x ≡ y
+  pub one_replay : (x y : Answered code.Replay Refusal) → told_replayed x ≡ told_replayed y → x ≡ y
+  pub one_part : (x y : Answered part.Stream Refusal) → told_part x ≡ told_part y → x ≡ y
   -- laws: copy_in; places: put_at; numbers: put_number
   pub copy_in : (out : List ℕ) (at : ℕ) (bytes : List ℕ) → OneAnswer (copied_in out at bytes)
   pub put_at : (s : List ℕ) (i v : ℕ) → OneAnswer (set s i v)

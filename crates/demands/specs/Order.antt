@@ -1,5 +1,6 @@
 -- Document 01's order of refusals: for each call the tests that it makes, in the paper's order, each with the number of its refusal.
-use Rattle.std.specs.Prelude.{ℕ, ◌+◌, ◌*◌, List, [], ◌∷◌, ◌++◌, Bool, false, not, ◌&&◌, ◌||◌, cond, eqb, ltb, leb, length}
+use Rattle.layouts.specs.Parts.{Held}
+use Rattle.std.specs.Prelude.{ℕ, ◌+◌, ◌*◌, List, [], ◌∷◌, ◌++◌, Bool, false, not, ◌&&◌, ◌||◌, cond, eqb, ltb, leb, length, Some, None}
 use Rattle.laws.specs.Refusals.{bad_identifier, sid0_set, bad_form, bad_priority, bad_type, type_not_known, not_listed, wrong_length, wrong_priority, bad_field, code_at, no_room, nothing_kept, no_such_place, too_short, bad_number}
 use Rattle.laws.specs.Tests.{among}
 use Rattle.kinds.specs.Types.{low, priorities, no_type, vmb8ir, module_types, handed_types, row_for, is_listed, extent_of}
@@ -26,8 +27,6 @@ use Rattle.verdicts.specs.Verdicts.{sent_only}
 use Rattle.recording.specs.Limits.{in_range}
 use Rattle.recorder.specs.Write.{record_bytes}
 use Rattle.codec.specs.Writing.{frame_size}
-use Rattle.layouts.specs.declared.parts.Held.{Held}
-use Rattle.layouts.specs.declared.parts.Held.TheVariants.{Holds, Nothing}
 use Rattle.layouts.specs.Layout.{message_size, held_in}
 
 infix 70 ◌or◌
@@ -238,8 +237,8 @@ read_order kind identifier remote s space = reader_order kind identifier remote 
 
 -- velbus_write: 13 for the message; a bad handed-in type; 6 for bytes that are no message; the writer's others; 13 for the frame
 abbrev pub held_tests : ℕ → Held → ℕ → List Test
-held_tests kind (Holds a m) space = message_tests kind m ++ (leb frame_size space or too_short ∷ [])
-held_tests kind Nothing space = false or not_listed ∷ []
+held_tests kind (Some (a, m)) space = message_tests kind m ++ (leb frame_size space or too_short ∷ [])
+held_tests kind None space = false or not_listed ∷ []
 
 abbrev pub write_order : ℕ → List ℕ → ℕ → List Test
 write_order kind message space =

@@ -1,12 +1,10 @@
 -- W-205: the plan of fewest reads. What a right plan is, that the plan is the one that the request's words give, that its count is the least number and
 -- that a proposed plan is judged by it, are the statements of the crate plan; here they are tied to demand 3, in what a technician pays for: hearing the
 -- replies of a plan's reads leaves no cell unknown, and no list of fewer CC frames does. The proof is proofs/Plan.antt.
-use Rattle.std.specs.Prelude.{ℕ, ◌≤◌, ◌<◌, ◌≡◌, List, [], ◌∷◌, map, length, take}
+use Rattle.std.specs.Prelude.{ℕ, ◌≤◌, ◌<◌, ◌≡◌, List, [], ◌∷◌, map, length, take, Ok, Some}
 use Rattle.laws.specs.Limits.{AllBytes}
 use Rattle.kinds.specs.Types.{cells_of}
 use Rattle.frame.specs.declared.messages.Command.TheVariants.{BlockTold}
-use Rattle.shape.specs.declared.answers.Answer.TheVariants.{Value}
-use Rattle.shape.specs.declared.answers.Outcome.TheVariants.{Done}
 use Rattle.shape.specs.Layout.{size}
 use Rattle.questions.specs.Question.{type_of, cell}
 use Rattle.questions.specs.Replies.{reply}
@@ -40,11 +38,11 @@ hearing picture fs = runs_bytes picture (map hear fs)
 -- each of them is accepted
 abbrev pub AllAccepted : List ℕ → List Frame → Type 0
 AllAccepted picture [] = Unit {0}
-AllAccepted picture (f ∷ fs) = ((doing (hear f) picture).outcome ≡ Done) × AllAccepted (doing (hear f) picture).buffer fs
+AllAccepted picture (f ∷ fs) = ((doing (hear f) picture).outcome ≡ Ok tt) × AllAccepted (doing (hear f) picture).buffer fs
 
 -- the question on every cell of the module is answered by a value
 abbrev pub AllTold : List ℕ → ℕ → ℕ → Type 0
-AllTold picture a kind = (location : ℕ) → location < cells_of kind → (v : ℕ) × ((reply picture a (cell location) []).answer ≡ Value v)
+AllTold picture a kind = (location : ℕ) → location < cells_of kind → (v : ℕ) × ((reply picture a (cell location) []).answer ≡ Ok (Some v))
 
 -- The plan that the picture gives into the list `out`, of so many reads, for the module at a, whose type is `kind`.
 pub record Pays (picture : List ℕ) (a kind : ℕ) (out : List ℕ) (count : ℕ) : Type 0 where
@@ -58,8 +56,8 @@ pub record Pays (picture : List ℕ) (a kind : ℕ) (out : List ℕ) (count : �
 abbrev pub PlanPays : Type 0
 PlanPays =
     (b : List ℕ) → size ≤ length b → (d : ℕ) → d ≤ deepest → (h : List Event) → AllBytes (run_bytes b d h)
-    → (a kind : ℕ) → (reply (run_bytes b d h) a type_of []).answer ≡ Value kind
-    → (out : List ℕ) (count : ℕ) → (plan_reply (run_bytes b d h) a out).answer ≡ Value count
+    → (a kind : ℕ) → (reply (run_bytes b d h) a type_of []).answer ≡ Ok (Some kind)
+    → (out : List ℕ) (count : ℕ) → (plan_reply (run_bytes b d h) a out).answer ≡ Ok (Some count)
     → Pays (run_bytes b d h) a kind out count
 
 pub record Plan : Type 0 where

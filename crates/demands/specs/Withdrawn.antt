@@ -4,8 +4,7 @@ use Rattle.std.specs.Prelude.{ℕ, ◌/◌, ◌%◌, ◌<◌, ◌≡◌, ◌≢�
 use Rattle.laws.specs.Refusals.{not_whole, number_in}
 use Rattle.frame.specs.declared.messages.Message.{Message}
 use Rattle.questions.specs.Question.{Question}
-use Rattle.recording.specs.declared.records.Entry.TheVariants.{Broken}
-use Rattle.recording.specs.Record.{read_record}
+use Rattle.recording.specs.Record.{Broken, read_record}
 use Rattle.results.specs.Words.{values}
 use Rattle.demands.specs.Order.{Test, Verdict, refuses, verdict, reader_order, writer_order, picture_test, fresh_order, hearing_order, back_order, listed_order, question_order, right_order, plan_order, put_order, replay_order, part_order, listing_order, read_order, write_order}
 use Rattle.demands.specs.Demand1.{word_of}

@@ -9,5 +9,5 @@ ghost use Rattle.laws.specs.Refusals.{sid0_set};
 pub fn greatest_refusal() -> u16
     ensures { result ≡ sid0_set }
 {
-    laws::SID0_SET
+    laws::Refusal::Sid0Set.code()
 }

@@ -1,34 +1,24 @@
 -- The starred edges of document 01, "Both sides of each edge", and those of later requests: what the definitions give, and what is right. The proof is
 -- proofs/Edges.antt.
-use Rattle.std.specs.Prelude.{ℕ, ◌≤◌, ◌≡◌, List, [], ◌∷◌, ◌++◌, map, reverse, length, replicate}
+use Rattle.shape.specs.Answers.{Outcome, Answer}
+use Rattle.std.specs.Prelude.{ℕ, ◌≤◌, ◌≡◌, List, [], ◌∷◌, ◌++◌, map, reverse, length, replicate, Ok, Err, Some, None}
 use Rattle.laws.specs.Refusals.{bad_identifier, sid0_set, bad_form, bad_priority, bad_type, wrong_priority, bad_field, code_at, nothing_kept, no_such_place, too_short, bad_number}
 use Rattle.frame.specs.Identifiers.{priority_of, address_of}
-use Rattle.judging.specs.Reading.{reading}
+use Rattle.judging.specs.Reading.{reading, Reading}
 use Rattle.frame.specs.declared.identifiers.Address.{Address}
 use Rattle.frame.specs.declared.messages.Time.TheVariants.{DipSwitch, Permanently, Seconds}
 use Rattle.frame.specs.declared.messages.Command.{Command}
 use Rattle.frame.specs.declared.messages.Command.TheVariants.{TypeShort, Buttons, BlockTold, NameThree, NameAsked, BlindStatus, BlindStop, BlindUp}
 use Rattle.frame.specs.declared.messages.Message.TheVariants.{TypeRequest, Tells}
-use Rattle.frame.specs.declared.messages.Reading.{Reading}
-use Rattle.frame.specs.declared.messages.Reading.TheVariants.{Read, Refused}
-use Rattle.shape.specs.declared.answers.Answer.{Answer}
-use Rattle.shape.specs.declared.answers.Answer.TheVariants.{Value, NotHeard}
-use Rattle.shape.specs.declared.answers.Answer.TheVariants as answer
-use Rattle.shape.specs.declared.answers.Outcome.{Outcome}
-use Rattle.shape.specs.declared.answers.Outcome.TheVariants as outcome
 use Rattle.shape.specs.Layout.{size}
 use Rattle.questions.specs.Question.{Question, cell, led, blind, name_row, Reply, value, refusing}
 use Rattle.questions.specs.Replies.{reply}
 use Rattle.history.specs.Standing.{Event, back, deepest, outcome_of, answered}
 use Rattle.history.specs.Demand3.{run_bytes}
 use Rattle.history.specs.Cases.{example, ir, bl, bl2, status, told_to, low as heard, high as urged}
-use Rattle.groups.specs.declared.scan.Found.{Found}
-use Rattle.groups.specs.declared.scan.Found.TheVariants as numbers
-use Rattle.groups.specs.Number.{bytes_of, number_at}
-use Rattle.recording.specs.declared.records.Entry.{Entry}
-use Rattle.recording.specs.declared.records.Entry.TheVariants.{Broken}
+use Rattle.groups.specs.Number.{Found, bytes_of, number_at}
 use Rattle.recording.specs.Limits.{most_gap}
-use Rattle.recording.specs.Record.{read_record}
+use Rattle.recording.specs.Record.{Entry, Broken, read_record}
 
 -- what an edge shows: the priority and the address of an identifier; a frame as it is read; answers; what a step back comes to; a name; a number's
 -- bytes; a number that was read; what stands at a recording's start
@@ -59,7 +49,7 @@ high_example = 84
 
 -- a 9 with the number of its byte
 abbrev pub bad_at : ℕ → Reading
-bad_at byte = Refused (code_at bad_field byte)
+bad_at byte = Err (code_at bad_field byte)
 
 -- an identifier is of this priority and address
 abbrev pub identifies : ℕ → ℕ → Address → Row
@@ -71,7 +61,7 @@ reads kind i remote s r = record { given = frame (reading kind i remote s); righ
 
 -- a command at the example module, accepted with this message
 abbrev pub accepts : ℕ → ℕ → List ℕ → Command → Row
-accepts kind i s m = reads kind i 0 s (Read at (Tells m))
+accepts kind i s m = reads kind i 0 s (Ok (at, Tells m))
 
 -- after these events, from a fresh picture of that depth, the questions are answered so, and a step back comes to that
 abbrev pub asked_at : ℕ → List Event → List Question → List Answer → Row
@@ -99,7 +89,7 @@ abbrev pub written : ℕ → List ℕ → Row
 written v bs = record { given = bytes (bytes_of v); right = bytes bs }
 
 abbrev pub read_as : List ℕ → ℕ → Row
-read_as bs v = record { given = number (number_at bs 0 most_gap); right = number (numbers.Value v (length bs)) }
+read_as bs v = record { given = number (number_at bs 0 most_gap); right = number (Ok (v, length bs)) }
 
 -- a recording begins so
 abbrev pub begins : List ℕ → Entry → Row
@@ -123,7 +113,7 @@ block_told l = BlockTold (record { 0 = l }) 1 2 3 4
 -- the LEDs 1 to 8 after a frame: 0 off, 1 on, 2 slow, 3 fast, 4 very fast
 abbrev pub leds : List ℕ → List ℕ → Row
 leds s xs =
-    asked (ir ∷ heard s ∷ []) (led 1 ∷ led 2 ∷ led 3 ∷ led 4 ∷ led 5 ∷ led 6 ∷ led 7 ∷ led 8 ∷ []) (map (λ (x : ℕ). Value x) xs)
+    asked (ir ∷ heard s ∷ []) (led 1 ∷ led 2 ∷ led 3 ∷ led 4 ∷ led 5 ∷ led 6 ∷ led 7 ∷ led 8 ∷ []) (map (λ (x : ℕ). Ok (Some x)) xs)
 
 -- the blind goes up for a time
 abbrev pub up : ℕ → ℕ → ℕ → List ℕ
@@ -175,14 +165,14 @@ abbrev pub edges : List Row
 edges =
     -- 1620 is low (3), address H'2A'; 1621: 17; 2048 and 2049: 1; 596: 3
     identifies low_example 3 at
-    ∷ reads 0x0A 1621 0 (0xCB ∷ []) (Refused sid0_set)
-    ∷ reads 0x0A 2048 0 (0xCB ∷ []) (Refused bad_identifier)
-    ∷ reads 0x0A 2049 0 (0xCB ∷ []) (Refused bad_identifier)
-    ∷ reads 0x0A 596 0 (0xCB ∷ []) (Refused bad_priority)
+    ∷ reads 0x0A 1621 0 (0xCB ∷ []) (Err sid0_set)
+    ∷ reads 0x0A 2048 0 (0xCB ∷ []) (Err bad_identifier)
+    ∷ reads 0x0A 2049 0 (0xCB ∷ []) (Err bad_identifier)
+    ∷ reads 0x0A 596 0 (0xCB ∷ []) (Err bad_priority)
     -- remote, 1620, no data: type request; remote, 84: 8; remote with one byte: 2
-    ∷ reads 0 low_example 1 [] (Read at TypeRequest)
-    ∷ reads 0 high_example 1 [] (Refused wrong_priority)
-    ∷ reads 0 low_example 1 (0x00 ∷ []) (Refused bad_form)
+    ∷ reads 0 low_example 1 [] (Ok (at, TypeRequest))
+    ∷ reads 0 high_example 1 [] (Err wrong_priority)
+    ∷ reads 0 low_example 1 (0x00 ∷ []) (Err bad_form)
     -- EF 03: refused 9 for H'0A', accepted for H'03'
     ∷ reads 0x0A low_example 0 (0xEF ∷ 0x03 ∷ []) (bad_at 2)
     ∷ accepts 0x03 low_example (0xEF ∷ 0x03 ∷ []) (NameAsked 0x03)
@@ -222,7 +212,7 @@ edges =
     ∷ reads 0 low_example 0 (enters 0x09 0x10) (bad_at 3)
     ∷ accepts 0 low_example (enters 0x03 0x03) (TypeShort 0x03 0x03 0x0C 0x05)
     ∷ reads 0 low_example 0 (enters 0x03 0x04) (bad_at 3)
-    ∷ reads 0 low_example 0 (enters 0x08 0x00) (Refused bad_type)
+    ∷ reads 0 low_example 0 (enters 0x08 0x00) (Err bad_type)
     -- 04 to blind 2, which H'03' has not; H'0F' is no blind
     ∷ accepts 0x09 high_example (0x04 ∷ 0x0C ∷ []) (BlindStop 0x0C)
     ∷ reads 0x09 high_example 0 (0x04 ∷ 0x0F ∷ []) (bad_at 2)
@@ -242,10 +232,10 @@ edges =
     ∷ accepts 0x09 low_example (block 0xFC) (block_told 0xFC)
     ∷ reads 0x09 low_example 0 (block 0xFD) (bad_at 3)
     -- each blind's state by itself: 1 up, 2 down; 05 to one of them leaves the other; 12 for blind 3, and for blind 2 on H'03'
-    ∷ asked both_move (blind 1 ∷ blind 2 ∷ blind 3 ∷ []) (Value 1 ∷ Value 2 ∷ answer.Refused no_such_place ∷ [])
-    ∷ asked (both_move ++ urged (0x05 ∷ 0x0C ∷ 0 ∷ 0 ∷ 0 ∷ []) ∷ []) (blind 1 ∷ blind 2 ∷ []) (Value 1 ∷ NotHeard ∷ [])
-    ∷ asked (both_move ++ urged (0x05 ∷ 0x03 ∷ 0 ∷ 0 ∷ 0 ∷ []) ∷ []) (blind 1 ∷ blind 2 ∷ []) (NotHeard ∷ Value 2 ∷ [])
-    ∷ asked (bl ∷ []) (blind 1 ∷ blind 2 ∷ []) (NotHeard ∷ answer.Refused no_such_place ∷ [])
+    ∷ asked both_move (blind 1 ∷ blind 2 ∷ blind 3 ∷ []) (Ok (Some 1) ∷ Ok (Some 2) ∷ Err no_such_place ∷ [])
+    ∷ asked (both_move ++ urged (0x05 ∷ 0x0C ∷ 0 ∷ 0 ∷ 0 ∷ []) ∷ []) (blind 1 ∷ blind 2 ∷ []) (Ok (Some 1) ∷ Ok None ∷ [])
+    ∷ asked (both_move ++ urged (0x05 ∷ 0x03 ∷ 0 ∷ 0 ∷ 0 ∷ []) ∷ []) (blind 1 ∷ blind 2 ∷ []) (Ok None ∷ Ok (Some 2) ∷ [])
+    ∷ asked (bl ∷ []) (blind 1 ∷ blind 2 ∷ []) (Ok None ∷ Err no_such_place ∷ [])
     -- F2, F0, F1 for one channel: 16 heard, and the sixteen values; by W-209 F2 alone: 4 heard; nothing heard: 0
     ∷ named (ir ∷ part_three ∷ part_one ∷ part_two ∷ []) 16 (value 16 whole_name)
     ∷ named (ir ∷ part_three ∷ []) 16 (value 4 last_four)
@@ -254,18 +244,18 @@ edges =
     ∷ named (ir ∷ part_three ∷ []) 15 (refusing too_short (zeros 15))
     ∷ named (ir ∷ part_three ∷ []) 17 (value 4 (last_four ++ zeros 1))
     -- FE, then FC on one cell: unknown
-    ∷ asked (ir ∷ told ∷ []) (cell 5 ∷ []) (Value 0x2A ∷ [])
-    ∷ asked (ir ∷ told ∷ change ∷ []) (cell 5 ∷ []) (NotHeard ∷ [])
+    ∷ asked (ir ∷ told ∷ []) (cell 5 ∷ []) (Ok (Some 0x2A) ∷ [])
+    ∷ asked (ir ∷ told ∷ change ∷ []) (cell 5 ∷ []) (Ok None ∷ [])
     -- W-204: FE on a cell of H'0A' tells the character that it is, and FC makes it unknown; a part of a name tells its cells
     ∷ named (ir ∷ second_told ∷ []) 16 (value 1 (256 ∷ 0x2A ∷ replicate 14 256))
     ∷ named (ir ∷ second_told ∷ second_change ∷ []) 16 (value 0 (replicate 16 256))
-    ∷ asked (ir ∷ part_three ∷ []) (cell 43 ∷ cell 44 ∷ cell 47 ∷ cell 48 ∷ []) (NotHeard ∷ Value 0x4D ∷ Value 0xFF ∷ NotHeard ∷ [])
+    ∷ asked (ir ∷ part_three ∷ []) (cell 43 ∷ cell 44 ∷ cell 47 ∷ cell 48 ∷ []) (Ok None ∷ Ok (Some 0x4D) ∷ Ok (Some 0xFF) ∷ Ok None ∷ [])
     -- depth 0: the frame stands, and no step is granted (11); depth 1: one is granted, and no second
-    ∷ back_at 0 (ir ∷ told ∷ []) (outcome.Refused nothing_kept)
-    ∷ asked_at 0 (ir ∷ told ∷ back ∷ []) (cell 5 ∷ []) (Value 0x2A ∷ [])
-    ∷ back_at 1 (ir ∷ told ∷ []) outcome.Done
-    ∷ asked_at 1 (ir ∷ told ∷ back ∷ []) (cell 5 ∷ []) (NotHeard ∷ [])
-    ∷ back_at 1 (ir ∷ told ∷ back ∷ []) (outcome.Refused nothing_kept)
+    ∷ back_at 0 (ir ∷ told ∷ []) (Err nothing_kept)
+    ∷ asked_at 0 (ir ∷ told ∷ back ∷ []) (cell 5 ∷ []) (Ok (Some 0x2A) ∷ [])
+    ∷ back_at 1 (ir ∷ told ∷ []) (Ok tt)
+    ∷ asked_at 1 (ir ∷ told ∷ back ∷ []) (cell 5 ∷ []) (Ok None ∷ [])
+    ∷ back_at 1 (ir ∷ told ∷ back ∷ []) (Err nothing_kept)
     -- 3240 is A8 19; 127 is 7F; 128 is 80 01; 80 00: 16
     ∷ written 3240 (0xA8 ∷ 0x19 ∷ [])
     ∷ read_as (0xA8 ∷ 0x19 ∷ []) 3240

@@ -1,24 +1,26 @@
-// Which fields are allowed, by the module's type. Each function answers 9 with the number of the first data byte, from the left, that no allowed
-// choice of the later bytes can repair, and 0 where every field is allowed; reader and writer both go by it.
+// Which fields are allowed, by the module's type. Where one is not, the refusal is 9 with the number of the first data byte, from the left, that no
+// allowed choice of the later bytes can repair; reader and writer both go by it.
 ghost use Rattle.std.specs.Prelude.{◌≡◌, ◌||◌, eqb};
-ghost use Rattle.laws.specs.Tests.{among};
+ghost use Rattle.laws.specs.Codes.{code_in};
+ghost use Rattle.laws.specs.Refusals.{bad_field, code_at};
+ghost use Rattle.laws.specs.Tests.{among, unless};
 ghost use Rattle.kinds.specs.Types.{blind_of};
 ghost use Rattle.fields.specs.Fields.{of_blinds, is_blind, channel_allowed, buttons_allowed, asked_allowed, time_allowed, timeouts_allowed, blind_states, location_fault, cell_fault, block_fault, buttons_fault, channel_fault, last_part_fault, name_asked_fault, status_asked_fault, blind_status_fault, stop_fault, type_short_fault, timed_fault, field_refusal};
 
 use frame::{Location, Time};
 use kinds::{VMB1BL, VMB2BL, VMB8IR, extent_of, last_cell, last_start, name_of, one_bit, up_bit};
-use laws::{BAD_FIELD, both, either, unless, wide32};
+use laws::{Refusal, both, either, wide32};
 
-// A field that is not allowed, with the number of its byte: made here and not of the byte, for a frame is judged at every turn.
-const AT_BYTE_2: u16 = BAD_FIELD + 256 * 2;
-
-const AT_BYTE_3: u16 = BAD_FIELD + 256 * 3;
-
-const AT_BYTE_4: u16 = BAD_FIELD + 256 * 4;
-
-const AT_BYTE_5: u16 = BAD_FIELD + 256 * 5;
-
-const AT_BYTE_6: u16 = BAD_FIELD + 256 * 6;
+// A field whose test fails is not allowed, and is told by its byte.
+fn allowed_at(byte: u8, test: bool) -> Result<(), Refusal>
+    ensures { code_in result ≡ unless test (code_at bad_field byte) 0 }
+{
+    if test {
+        Ok(())
+    } else {
+        Err(Refusal::BadField(byte))
+    }
+}
 
 // A test that binds the types with blinds alone.
 fn of_blinds(kind: u32, test: bool) -> bool
@@ -87,72 +89,73 @@ fn time_allowed(t: Time) -> bool
     }
 }
 
-fn location_fault(last: u32, l: Location) -> u16
-    ensures { result ≡ field_refusal (location_fault last l) }
+fn location_fault(last: u32, l: Location) -> Result<(), Refusal>
+    ensures { code_in result ≡ field_refusal (location_fault last l) }
 {
     let n = l.0 as u32;
     if n <= last {
-        return 0;
+        return Ok(());
     }
-    unless(n / 256 <= last / 256, AT_BYTE_2, AT_BYTE_3)
+    allowed_at(2, n / 256 <= last / 256)?;
+    Err(Refusal::BadField(3))
 }
 
-pub fn cell_fault(kind: u32, l: Location) -> u16
-    ensures { result ≡ field_refusal (cell_fault kind l) }
+pub fn cell_fault(kind: u32, l: Location) -> Result<(), Refusal>
+    ensures { code_in result ≡ field_refusal (cell_fault kind l) }
 {
     location_fault(last_cell(kind), l)
 }
 
-pub fn block_fault(kind: u32, l: Location) -> u16
-    ensures { result ≡ field_refusal (block_fault kind l) }
+pub fn block_fault(kind: u32, l: Location) -> Result<(), Refusal>
+    ensures { code_in result ≡ field_refusal (block_fault kind l) }
 {
     location_fault(last_start(kind), l)
 }
 
 // Of a type that does not have all eight buttons.
-fn some_buttons_fault(kind: u32, a: u8, b: u8, c: u8) -> u16
-    ensures { result ≡ field_refusal (buttons_fault kind a b c) }
+fn some_buttons_fault(kind: u32, a: u8, b: u8, c: u8) -> Result<(), Refusal>
+    ensures { code_in result ≡ field_refusal (buttons_fault kind a b c) }
 {
-    let fourth = unless(buttons_allowed(kind, c), AT_BYTE_4, 0);
-    let third = unless(buttons_allowed(kind, b), AT_BYTE_3, fourth);
-    unless(buttons_allowed(kind, a), AT_BYTE_2, third)
+    allowed_at(2, buttons_allowed(kind, a))?;
+    allowed_at(3, buttons_allowed(kind, b))?;
+    allowed_at(4, buttons_allowed(kind, c))
 }
 
-pub fn buttons_fault(kind: u32, a: u8, b: u8, c: u8) -> u16
-    ensures { result ≡ field_refusal (buttons_fault kind a b c) }
+pub fn buttons_fault(kind: u32, a: u8, b: u8, c: u8) -> Result<(), Refusal>
+    ensures { code_in result ≡ field_refusal (buttons_fault kind a b c) }
 {
     match kind {
-        VMB8IR => 0,
-        VMB2BL => 0,
+        VMB8IR => Ok(()),
+        VMB2BL => Ok(()),
         _ => some_buttons_fault(kind, a, b, c),
     }
 }
 
-pub fn channel_fault(kind: u32, channel: u8) -> u16
-    ensures { result ≡ field_refusal (channel_fault kind channel) }
+pub fn channel_fault(kind: u32, channel: u8) -> Result<(), Refusal>
+    ensures { code_in result ≡ field_refusal (channel_fault kind channel) }
 {
-    unless(channel_allowed(kind, channel), AT_BYTE_2, 0)
+    allowed_at(2, channel_allowed(kind, channel))
 }
 
-pub fn name_asked_fault(kind: u32, x: u8) -> u16
-    ensures { result ≡ field_refusal (name_asked_fault kind x) }
+pub fn name_asked_fault(kind: u32, x: u8) -> Result<(), Refusal>
+    ensures { code_in result ≡ field_refusal (name_asked_fault kind x) }
 {
-    unless(asked_allowed(kind, x), AT_BYTE_2, 0)
+    allowed_at(2, asked_allowed(kind, x))
 }
 
 // The last part of a name: a button of a type with blinds has 15 characters, and H'FF' after them.
-pub fn last_part_fault(kind: u32, channel: u8, last: u8) -> u16
-    ensures { result ≡ field_refusal (last_part_fault kind channel last) }
+pub fn last_part_fault(kind: u32, channel: u8, last: u8) -> Result<(), Refusal>
+    ensures { code_in result ≡ field_refusal (last_part_fault kind channel last) }
 {
+    allowed_at(2, channel_allowed(kind, channel))?;
     let whole = either(is_blind(kind, channel), last == 0xFF);
-    let sixth = unless(of_blinds(kind, whole), AT_BYTE_6, 0);
-    unless(channel_allowed(kind, channel), AT_BYTE_2, sixth)
+    allowed_at(6, of_blinds(kind, whole))
 }
 
-pub fn status_asked_fault(kind: u32, channel: u8) -> u16
-    ensures { result ≡ field_refusal (status_asked_fault kind channel) }
+pub fn status_asked_fault(kind: u32, channel: u8) -> Result<(), Refusal>
+    ensures { code_in result ≡ field_refusal (status_asked_fault kind channel) }
 {
-    unless(of_blinds(kind, is_blind(kind, channel)), AT_BYTE_2, 0)
+    allowed_at(2, of_blinds(kind, is_blind(kind, channel)))
 }
 
 // Off, up or down.
@@ -163,22 +166,25 @@ fn state_allowed(kind: u32, channel: u8, state: u8) -> bool
     either(state == 0, either(state == up, state == 2 * up))
 }
 
-pub fn blind_status_fault(kind: u32, channel: u8, timeout: u8, state: u8, led: u8) -> u16
-    ensures { result ≡ field_refusal (blind_status_fault kind channel timeout state led) }
+pub fn blind_status_fault(
+    kind: u32,
+    channel: u8,
+    timeout: u8,
+    state: u8,
+    led: u8,
+) -> Result<(), Refusal>
+    ensures { code_in result ≡ field_refusal (blind_status_fault kind channel timeout state led) }
 {
-    let fifth = unless(either(led == 0, one_bit(led)), AT_BYTE_5, 0);
-    let third = unless(
-        timeout <= 3,
-        AT_BYTE_3,
-        unless(state_allowed(kind, channel, state), AT_BYTE_4, fifth),
-    );
-    unless(is_blind(kind, channel), AT_BYTE_2, third)
+    allowed_at(2, is_blind(kind, channel))?;
+    allowed_at(3, timeout <= 3)?;
+    allowed_at(4, state_allowed(kind, channel, state))?;
+    allowed_at(5, either(led == 0, one_bit(led)))
 }
 
-pub fn stop_fault(kind: u32, channel: u8) -> u16
-    ensures { result ≡ field_refusal (stop_fault kind channel) }
+pub fn stop_fault(kind: u32, channel: u8) -> Result<(), Refusal>
+    ensures { code_in result ≡ field_refusal (stop_fault kind channel) }
 {
-    unless(is_blind(kind, channel), AT_BYTE_2, 0)
+    allowed_at(2, is_blind(kind, channel))
 }
 
 // Two bits for each blind.
@@ -193,18 +199,15 @@ fn timeouts_allowed(kind: u32, timeouts: u8) -> bool
     }
 }
 
-pub fn type_short_fault(kind: u32, timeouts: u8) -> u16
-    ensures { result ≡ field_refusal (type_short_fault kind timeouts) }
+pub fn type_short_fault(kind: u32, timeouts: u8) -> Result<(), Refusal>
+    ensures { code_in result ≡ field_refusal (type_short_fault kind timeouts) }
 {
-    unless(timeouts_allowed(kind, timeouts), AT_BYTE_3, 0)
+    allowed_at(3, timeouts_allowed(kind, timeouts))
 }
 
-pub fn timed_fault(kind: u32, channel: u8, t: Time) -> u16
-    ensures { result ≡ field_refusal (timed_fault kind channel t) }
+pub fn timed_fault(kind: u32, channel: u8, t: Time) -> Result<(), Refusal>
+    ensures { code_in result ≡ field_refusal (timed_fault kind channel t) }
 {
-    unless(
-        is_blind(kind, channel),
-        AT_BYTE_2,
-        unless(time_allowed(t), AT_BYTE_3, 0),
-    )
+    allowed_at(2, is_blind(kind, channel))?;
+    allowed_at(3, time_allowed(t))
 }

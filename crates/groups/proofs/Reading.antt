@@ -14,9 +14,9 @@ use lib.Seq.{drop-cons}
 use lib.Dec.{ltb, eqb}
 use borrow.Author.Tests.{lt-ltb, le-ltb, eq-eqb, ne_eqb, ltb-false, eqb-false}
 use Rattle.laws.proofs.Choices.{cond_elim}
-use Rattle.groups.specs.declared.scan.Found.{Found}
-use Rattle.groups.specs.declared.scan.Found.TheVariants.{Value, Ends, Bad}
-use Rattle.groups.specs.Number.{read_number, joined}
+use Rattle.std.specs.Prelude.{Ok, Err}
+use Rattle.groups.specs.declared.scan.NumberFault.TheVariants.{Ends, Bad}
+use Rattle.groups.specs.Number.{Found, read_number, joined}
 
 -- two constructors are not equal
 pub different : ◌≡◌ {A = ℕ} 0 1 → ⊥
@@ -25,9 +25,9 @@ different q = omega arith
 -- what the byte b at `at`, with bs after it, gives where one more group than `left` is allowed
 unfoldable pub step : ℕ → ℕ → ℕ → ℕ → List ℕ → Found
 step left most at b bs =
-    cond (ltb most b) (Bad at)
-    (cond (ltb b 128) (Value b 1)
-    (cond (eqb left 0) (Bad at)
+    cond (ltb most b) (Err (Bad at))
+    (cond (ltb b 128) (Ok (b, 1))
+    (cond (eqb left 0) (Err (Bad at))
     (joined at (b - 128) (read_number left ((most - (b - 128)) / 128) (at + 1) bs))))
 
 pub number-head : (left most at b : ℕ) (bs : List ℕ) → read_number (suc left) most at (b ∷ bs) ≡ step left most at b bs
@@ -38,11 +38,11 @@ number-head left most at b bs = refl
 abbrev pub groups_at : List ℕ → ℕ → ℕ → ℕ → Found
 groups_at s left most at = read_number left most at (drop at s)
 
-pub number_end : (left most at : ℕ) (s : List ℕ) → length s ≤ at → Ends ≡ groups_at s left most at
+pub number_end : (left most at : ℕ) (s : List ℕ) → length s ≤ at → Err Ends ≡ groups_at s left most at
 unfolding read_number
 number_end left most at s h = rw (drop_of_length-le s h)
 
-pub number-none : (left most at : ℕ) (s : List ℕ) → at < length s → left ≡ 0 → Bad at ≡ groups_at s left most at
+pub number-none : (left most at : ℕ) (s : List ℕ) → at < length s → left ≡ 0 → Err (Bad at) ≡ groups_at s left most at
 unfolding read_number
 number-none left most at s h e = rw (e, drop-cons s at 0)
 
@@ -59,15 +59,15 @@ module _ (left most at : ℕ) (s : List ℕ) (b : ℕ) (inside : at < length s) 
       let e : left ≡ suc (left - 1) = omega arith in
       ap (λ (n : ℕ). groups_at s n most at) e ∙ number_step (left - 1) most at s inside ∙ ap (λ (n : ℕ). step (left - 1) most at n (drop (at + 1) s)) (sym byte)
 
-  pub number_large : most < b → Bad at ≡ groups_at s left most at
+  pub number_large : most < b → Err (Bad at) ≡ groups_at s left most at
   unfolding step
   number_large h = rw (at_byte, lt-ltb most b h)
 
-  pub number_last : b ≤ most → b < 128 → Value b 1 ≡ groups_at s left most at
+  pub number_last : b ≤ most → b < 128 → Ok (b, 1) ≡ groups_at s left most at
   unfolding step
   number_last h l = rw (at_byte, le-ltb most b h, lt-ltb b 128 l)
 
-  pub number_long : b ≤ most → 128 ≤ b → left ≡ 1 → Bad at ≡ groups_at s left most at
+  pub number_long : b ≤ most → 128 ≤ b → left ≡ 1 → Err (Bad at) ≡ groups_at s left most at
   unfolding step
   number_long h l one = rw (at_byte, le-ltb most b h, le-ltb b 128 l, eq-eqb (left - 1) 0 (omega arith))
 
@@ -90,15 +90,15 @@ pub record Fits (left most at end v groups : ℕ) : Type 0 where
 
 -- what was read of n bytes from `at` on fits; a bad byte lies among them; and where they end the number, they are fewer than its groups
 abbrev pub Within : ℕ → ℕ → ℕ → ℕ → Found → Type 0
-Within left most at n (Value v groups) = Fits left most at (at + n) v groups
-Within left most at n Ends = n ≤ left - 1
-Within left most at n (Bad p) = (at ≤ p) × (p < at + n)
+Within left most at n (Ok (v, groups)) = Fits left most at (at + n) v groups
+Within left most at n (Err Ends) = n ≤ left - 1
+Within left most at n (Err (Bad p)) = (at ≤ p) × (p < at + n)
 
 joined-within : (left most at low n : ℕ) → (left ≡ 0 → ⊥) → low ≤ most → (r : Found) → Within left ((most - low) / 128) (at + 1) n r → Within (suc left) most at (suc n) (joined at low r)
-joined-within left most at low n some h Ends w = omega arith
-joined-within left most at low n some h (Bad p) w = (omega arith, omega arith)
-joined-within left most at low n some h (Value v groups) w =
-    cond_elim (Within (suc left) most at (suc n)) (eqb v 0) (Bad (at + 1)) (Value (low + 128 * v) (groups + 1)) (λ _. (omega arith, omega (arith, w.some, w.inside)))
+joined-within left most at low n some h (Err Ends) w = omega arith
+joined-within left most at low n some h (Err (Bad p)) w = (omega arith, omega arith)
+joined-within left most at low n some h (Ok (v, groups)) w =
+    cond_elim (Within (suc left) most at (suc n)) (eqb v 0) (Err (Bad (at + 1))) (Ok (low + 128 * v, groups + 1)) (λ _. (omega arith, omega (arith, w.some, w.inside)))
     (λ z. let some-v : v ≡ 0 → ⊥ = eqb-false v 0 z in
     record { small = omega arith; some = omega arith; inside = omega arith; short = omega arith; zero_short = λ e. absurd (some-v (omega arith)) })
 
@@ -110,7 +110,7 @@ number-within (suc left) most at (b ∷ bs) =
     let P : Found → Type 0 = Within (suc left) most at (suc (length bs)) in
     let low : ℕ = b - 128 in
     let m : ℕ = (most - low) / 128 in
-    let here : P (Bad at) = (omega arith, omega arith) in
+    let here : P (Err (Bad at)) = (omega arith, omega arith) in
     cond_elim P (ltb most b) _ _ (λ _. here)
     (λ e. let h : b ≤ most = ltb-false most b e in
     cond_elim P (ltb b 128) _ _ (λ _. record { small = h; some = omega arith; inside = omega arith; short = omega arith; zero_short = λ _. refl })
@@ -124,15 +124,15 @@ module _ (left most at : ℕ) (s : List ℕ) where
       let w : Within left most at (length (drop at s)) r = subst (Within left most at (length (drop at s))) (sym e) (number-within left most at (drop at s)) in
       subst (λ (n : ℕ). Within left most at n r) (length-drop at s) w
 
-  pub value_at_lem : (r : Found) (v groups : ℕ) → r ≡ groups_at s left most at → r ≡ Value v groups → Fits left most at (length s) v groups
+  pub value_at_lem : (r : Found) (v groups : ℕ) → r ≡ groups_at s left most at → r ≡ Ok (v, groups) → Fits left most at (length s) v groups
   value_at_lem r v groups e f =
-      let w : Fits left most at (at + (length s - at)) v groups = within_at (Value v groups) (sym f ∙ e) in
+      let w : Fits left most at (at + (length s - at)) v groups = within_at (Ok (v, groups)) (sym f ∙ e) in
       record { small = w.small; some = w.some; inside = omega arith; short = w.short; zero_short = w.zero_short }
 
-  pub bad_at_lem : (p : ℕ) → Bad p ≡ groups_at s left most at → (at ≤ p) × (p < length s)
+  pub bad_at_lem : (p : ℕ) → Err (Bad p) ≡ groups_at s left most at → (at ≤ p) × (p < length s)
   bad_at_lem p e =
-      let w : Within left most at (length s - at) (Bad p) = within_at (Bad p) e in
+      let w : Within left most at (length s - at) (Err (Bad p)) = within_at (Err (Bad p)) e in
       (w.0, omega arith)
 
-  pub ends_at : Ends ≡ groups_at s left most at → length s - at ≤ left - 1
-  ends_at e = within_at Ends e
+  pub ends_at : Err Ends ≡ groups_at s left most at → length s - at ≤ left - 1
+  ends_at e = within_at (Err Ends) e

@@ -1,7 +1,7 @@
 -- Seven-bit numbers: the bytes that a number has, and what reading one finds.
-use Rattle.std.specs.Prelude.{ℕ, zero, suc, ◌+◌, ◌-◌, ◌*◌, ◌/◌, ◌%◌, List, [], ◌∷◌, cond, ltb, eqb, length, drop}
-use Rattle.groups.specs.declared.scan.Found.{Found}
-use Rattle.groups.specs.declared.scan.Found.TheVariants.{Value, Ends, Bad}
+use Rattle.std.specs.Prelude.{ℕ, zero, suc, ◌+◌, ◌-◌, ◌*◌, ◌/◌, ◌%◌, List, [], ◌∷◌, cond, ltb, eqb, length, drop, Result, Ok, Err}
+use Rattle.groups.specs.declared.scan.NumberFault.{NumberFault}
+use Rattle.groups.specs.declared.scan.NumberFault.TheVariants.{Ends, Bad}
 
 -- so many groups hold every number of 64 bits
 abbrev pub most_groups : ℕ
@@ -19,21 +19,24 @@ bytes_of v = number_bytes most_groups v
 abbrev pub groups_of : ℕ → ℕ
 groups_of v = length (bytes_of v)
 
+-- what reading a number finds: the number and the count of its groups, or why there is none
+abbrev pub Found : Type 0
+Found = Result (ℕ × ℕ) NumberFault
+
 -- the group `low` at the offset `at`, and after it the rest, as it was read: a rest of 0 is not the shortest form
 abbrev pub joined : ℕ → ℕ → Found → Found
-joined at low (Value v groups) = cond (eqb v 0) (Bad (at + 1)) (Value (low + 128 * v) (groups + 1))
-joined at low Ends = Ends
-joined at low (Bad p) = Bad p
+joined at low (Ok (v, groups)) = cond (eqb v 0) (Err (Bad (at + 1))) (Ok (low + 128 * v, groups + 1))
+joined at low (Err fault) = Err fault
 
 -- the number that the bytes begin with, of at most `left` groups and at most `most`, where the first byte has the offset `at`.
 -- A byte b above `most` is bad as it stands: the number is b itself, or b's low bits and 128 or more besides.
 unfoldable pub read_number : ℕ → ℕ → ℕ → List ℕ → Found
-read_number left most at [] = Ends
-read_number zero most at (b ∷ bs) = Bad at
+read_number left most at [] = Err Ends
+read_number zero most at (b ∷ bs) = Err (Bad at)
 read_number (suc left) most at (b ∷ bs) =
-    cond (ltb most b) (Bad at)
-    (cond (ltb b 128) (Value b 1)
-    (cond (eqb left 0) (Bad at)
+    cond (ltb most b) (Err (Bad at))
+    (cond (ltb b 128) (Ok (b, 1))
+    (cond (eqb left 0) (Err (Bad at))
     (joined at (b - 128) (read_number left ((most - (b - 128)) / 128) (at + 1) bs))))
 
 -- the number at the offset `at` of the input s, which is at most `most`: as many groups are allowed as `most` itself takes

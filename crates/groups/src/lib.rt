@@ -4,5 +4,5 @@
 mod scan;
 mod writes;
 
-pub use scan::{Found, read_groups, wide};
+pub use scan::{NumberFault, read_groups, wide};
 pub use writes::{number_size, put_number};

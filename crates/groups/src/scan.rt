@@ -2,11 +2,9 @@
 ghost use Rattle.std.specs.Prelude.{◌≡◌, ◌<◌, drop};
 ghost use Rattle.groups.specs.Number.{read_number};
 
-// What reading a number finds: the value, and the count of groups that it takes; the input's end inside the number; or the
-// offset of the first byte that no allowed number can have there.
-#[derive(Clone, Copy)]
-pub enum Found {
-    Value(u64, usize),
+// Why no number is read: the input ends inside it, or it has a byte that no allowed number can have there; with the offset of the first.
+#[derive(Clone, Copy, Debug, PartialEq, Eq)]
+pub enum NumberFault {
     Ends,
     Bad(usize),
 }
@@ -18,36 +16,31 @@ pub fn wide(x: u8) -> u64
     x as u64
 }
 
-// The number at `at`, of at most `left` groups and at most `most`: each group hands the rest on with one group fewer allowed.
-pub fn read_groups(s: &[u8], at: usize, left: usize, most: u64) -> Found
+// The number at `at`, of at most `left` groups and at most `most`, and the count of its groups: each group hands the rest on with one
+// group fewer allowed.
+pub fn read_groups(s: &[u8], at: usize, left: usize, most: u64) -> Result<(u64, usize), NumberFault>
     ensures { result ≡ read_number left most at (drop at s.now) }
 {
     if s.len() <= at {
-        return Found::Ends;
+        return Err(NumberFault::Ends);
     }
     if left == 0 {
-        return Found::Bad(at);
+        return Err(NumberFault::Bad(at));
     }
     let b = wide(s[at]);
     if most < b {
-        return Found::Bad(at);
+        return Err(NumberFault::Bad(at));
     }
     if b < 128 {
-        return Found::Value(b, 1);
+        return Ok((b, 1));
     }
     if left == 1 {
-        return Found::Bad(at);
+        return Err(NumberFault::Bad(at));
     }
     let low = b - 128;
-    match read_groups(s, at + 1, left - 1, (most - low) / 128) {
-        Found::Value(v, groups) => {
-            if v == 0 {
-                Found::Bad(at + 1)
-            } else {
-                Found::Value(low + 128 * v, groups + 1)
-            }
-        }
-        Found::Ends => Found::Ends,
-        Found::Bad(p) => Found::Bad(p),
+    let (rest, groups) = read_groups(s, at + 1, left - 1, (most - low) / 128)?;
+    if rest == 0 {
+        return Err(NumberFault::Bad(at + 1));
     }
+    Ok((low + 128 * rest, groups + 1))
 }

@@ -11,8 +11,8 @@ use borrow.Author.Tests.{ltb-true, lt-ltb, leb-true}
 use Rattle.laws.specs.Tab.{tab}
 use Rattle.laws.proofs.Tab.{get_d_tab, tab_ext}
 use Rattle.kinds.specs.Types.{extent_of}
-use Rattle.shape.specs.declared.answers.Answer.{Answer}
-use Rattle.shape.specs.declared.answers.Answer.TheVariants.{Value, NotHeard}
+use Rattle.shape.specs.Answers.{Answer}
+use Rattle.std.specs.Prelude.{Some, None, Ok}
 use Rattle.shape.specs.Limits.{room, addresses}
 use Rattle.places.specs.Places.{places, nowhere, year_place, week_place, led_place, blind_place, character_place, cell_place, cell_asked, led_asked, blind_asked, has_name, Row, row_of_name, cell_row}
 use Rattle.shape.specs.Layout.{place_at}
@@ -34,7 +34,7 @@ use Rattle.history.proofs.Fills.{filling-over}
 
 -- ---- the two bytes of a place that holds k
 record Holds (v t : ℕ) (k : Known) : Type 0 where
-  answer : cond (eqb v 0 && eqb t 1) NotHeard (Value (v + 256 * t)) ≡ answer_of k
+  answer : cond (eqb v 0 && eqb t 1) (Ok None) (Ok (Some (v + 256 * t))) ≡ answer_of k
   number : v + 256 * t ≡ number_of k
   heard : cond (eqb t 0) 1 0 ≡ heard_of k
 
@@ -43,9 +43,9 @@ cell_holds v zero k e =
     let q : told v ≡ k = cc in
     rw (← q) (record { answer = go (eqb v 0); number = omega arith; heard = refl })
   where
-    go : (c : Bool) → cond (c && false) NotHeard (Value (v + 0)) ≡ Value v
-    go true = ap Value (omega arith)
-    go false = ap Value (omega arith)
+    go : (c : Bool) → ◌≡◌ {A = Answer} (cond (c && false) (Ok None) (Ok (Some (v + 0)))) (Ok (Some v))
+    go true = ap (λ (x : ℕ). Ok (Some x)) (omega arith)
+    go false = ap (λ (x : ℕ). Ok (Some x)) (omega arith)
 cell_holds zero (suc zero) k e = let q : unknown ≡ k = cc in rw (← q) (record { answer = refl; number = refl; heard = refl })
 cell_holds zero (suc (suc t)) k e = absurd (none_some e)
 cell_holds (suc v) (suc t) k e = absurd (none_some e)

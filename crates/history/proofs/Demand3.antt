@@ -9,7 +9,7 @@ use lib.ListN.{get_or, length, length-set}
 use lib.Seq.{get_or-set_same, get_or-set_other}
 use borrow.Author.Tests.{le-ltb}
 use Rattle.laws.specs.Tab.{tab}
-use Rattle.shape.specs.declared.answers.Answer.TheVariants.{Value}
+use Rattle.std.specs.Prelude.{Some, Ok}
 use Rattle.shape.specs.Layout.{count_at, kept_at, depth_at, head_size, size}
 use Rattle.shape.specs.Limits.{most_depth}
 use Rattle.shape.specs.Head.{modules_of, kept_of, depth_of}
@@ -96,7 +96,7 @@ module _ (b : List ℕ) (whole : size ≤ length b) (d : ℕ) (allowed : d ≤ d
   shows_after : (h : List Event) → Shows (state_of (run_bytes b d h)).modules (standing d h)
   shows_after h = rw (follows h).state (shown-after d h)
 
-kept-told : (b : List ℕ) (n : ℕ) → size ≤ length b → kept_of b ≡ n → kept_answer b ≡ Value n
+kept-told : (b : List ℕ) (n : ℕ) → size ≤ length b → kept_of b ≡ n → kept_answer b ≡ Ok (Some n)
 unfolding kept_answer
 kept-told b n l e = rw (le-ltb (length b) size l, e)
 

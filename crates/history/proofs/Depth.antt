@@ -1,4 +1,5 @@
 -- The statements of specs/Depth.antt. Assumes nothing.
+use Rattle.std.specs.Prelude.{Err}
 use Prim.Native.Nat.{ℕ, suc, pred, min, ◌<◌, ◌≤◌}
 use native.Mathlib.Omega.{arith}
 use mathlib.Core.Path.{◌≡◌, refl, sym, ap, ◌∙◌}
@@ -8,7 +9,6 @@ use borrow.Author.Tests.{lt-ltb, le-ltb}
 use Rattle.laws.specs.Refusals.{nothing_kept}
 use Rattle.shape.specs.Limits.{most_depth}
 use Rattle.shape.specs.Layout.{size}
-use Rattle.shape.specs.declared.answers.Outcome.TheVariants.{Refused}
 use Rattle.steering.specs.Fresh.{freshening_with, freshening}
 use Rattle.history.specs.Standing.{Frame, Judgement, refused, accepted, exchanged, judgement, outcome_of, Event, hear, back, stands, struck, counted, standing, kept, granted, answered}
 use Rattle.history.specs.Depth.{DepthsNamed, KeptToDepth, StillStands, NoneAtZero}
@@ -65,7 +65,7 @@ nothing_struck : (h : List Event) → standing 0 (back ∷ h) ≡ standing 0 h
 unfolding standing struck
 nothing_struck h = rw (none_kept h)
 
-none-answered : (h : List Event) → outcome_of (answered 0 h back) ≡ Refused nothing_kept
+none-answered : (h : List Event) → outcome_of (answered 0 h back) ≡ Err nothing_kept
 unfolding answered granted outcome_of
 none-answered h = rw (none_kept h)
 

@@ -1,4 +1,5 @@
 -- The statements of specs/Effects.antt. Assumes nothing.
+use Rattle.std.specs.Prelude.{Ok}
 use Prim.Native.Nat.{ℕ, suc, pred, min, ◌<◌, ◌≤◌}
 use native.Mathlib.Omega.{arith}
 use mathlib.Core.Path.{◌≡◌, refl, sym, ap, ◌∙◌, subst}
@@ -11,7 +12,6 @@ use borrow.Author.Tests.{ne_eqb, lt-ltb, le-ltb}
 use mathlib.Core.Logic.{◌≢◌}
 use Rattle.laws.specs.Refusals.{no_room}
 use Rattle.frame.specs.declared.messages.Command.{Command}
-use Rattle.shape.specs.declared.answers.Outcome.TheVariants.{Done}
 use Rattle.shape.specs.Layout.{size}
 use Rattle.places.specs.Runs.{Run, Meaning, refuses, names, enters, meaning_of, meant, read_as}
 use Rattle.shape.specs.Limits.{room}
@@ -30,7 +30,7 @@ retold : (b : List ℕ) (a : ℕ) {t u : Option ℕ} {known other : ℕ → Know
 retold b a {t} {u} {known} {other} e q x = subst (λ (s : Option ℕ). Tells b a s other) e (subst (λ (k : ℕ → Known). Tells b a t k) (λ i p. q p i) x)
 
 -- an accepted frame stands
-done-stands : (j : Judgement) (f : Frame) (S : List Frame) → outcome_of j ≡ Done → stands j f S ≡ f ∷ S
+done-stands : (j : Judgement) (f : Frame) (S : List Frame) → outcome_of j ≡ Ok tt → stands j f S ≡ f ∷ S
 unfolding outcome_of stands
 done-stands (refused n) f S e = absurd (let z : ◌≡◌ {A = ℕ} 0 1 = cc in omega arith)
 done-stands accepted f S e = refl
@@ -50,7 +50,7 @@ module _ (b : List ℕ) (whole : size ≤ length b) (d : ℕ) (allowed : d ≤ d
   unfolding run_bytes
   bytes_after = refl
 
-  pub it_stands : outcome_of (judgement S f) ≡ Done → standing d (hear f ∷ h) ≡ f ∷ S
+  pub it_stands : outcome_of (judgement S f) ≡ Ok tt → standing d (hear f ∷ h) ≡ f ∷ S
   unfolding standing
   it_stands e = done-stands (judgement S f) f S e
 
@@ -58,17 +58,17 @@ module _ (b : List ℕ) (whole : size ≤ length b) (d : ℕ) (allowed : d ≤ d
   unfolding answered
   answer_is = before_it.next (hear f)
 
-  told-after : outcome_of (judgement S f) ≡ Done → (a : ℕ) → Tells (doing (hear f) (run_bytes b d h)).buffer a (standing_type (f ∷ S) a) (latest (f ∷ S) a)
+  told-after : outcome_of (judgement S f) ≡ Ok tt → (a : ℕ) → Tells (doing (hear f) (run_bytes b d h)).buffer a (standing_type (f ∷ S) a) (latest (f ∷ S) a)
   told-after e a = rw (← (it_stands e), ← bytes_after) (after_it.each a)
 
-  own-by : outcome_of (judgement S f) ≡ Done → (m : Meaning) → meaning (standing_type S (address f)) f ≡ m
+  own-by : outcome_of (judgement S f) ≡ Ok tt → (m : Meaning) → meaning (standing_type S (address f)) f ≡ m
       → Own (doing (hear f) (run_bytes b d h)).buffer (address f) (standing_type S (address f)) (latest S (address f)) m
   unfolding typed gave
   own-by e (refuses n) q = retold _ (address f) (here_type f S (refuses n) q) (λ p. here_latest f S (refuses n) p q) (told-after e (address f))
   own-by e (names r) q = retold _ (address f) (here_type f S (names r) q) (λ p. here_latest f S (names r) p q) (told-after e (address f))
   own-by e (enters k r) q = retold _ (address f) (here_type f S (enters k r) q) (λ p. here_latest f S (enters k r) p q) (told-after e (address f))
 
-  effect : outcome_of (judgement S f) ≡ Done → Effect (run_bytes b d h) (doing (hear f) (run_bytes b d h)).buffer S f
+  effect : outcome_of (judgement S f) ≡ Ok tt → Effect (run_bytes b d h) (doing (hear f) (run_bytes b d h)).buffer S f
   effect e =
       record {
         elsewhere =
@@ -86,7 +86,7 @@ module _ (b : List ℕ) (whole : size ≤ length b) (d : ℕ) (allowed : d ≤ d
       go : (k : ℕ) → struck (min d (suc k)) (f ∷ S) ≡ S
       go k = let q : min d (suc k) ≡ suc (min (pred d) k) = omega arith in rw q
 
-  done_it : judgement S f ≡ accepted → outcome_of (judgement S f) ≡ Done
+  done_it : judgement S f ≡ accepted → outcome_of (judgement S f) ≡ Ok tt
   unfolding outcome_of
   done_it e = rw e
 
@@ -120,10 +120,10 @@ module _ (b : List ℕ) (whole : size ≤ length b) (d : ℕ) (allowed : d ≤ d
   unfolding judgement
   judged_as = rw (t-is, m-is)
 
-  heard_own : outcome_of (judged t (listed (standing d h)) m) ≡ Done
-      → ((doing (hear f) (run_bytes b d h)).outcome ≡ Done) × Own (doing (hear f) (run_bytes b d h)).buffer (address f) t (latest (standing d h) (address f)) m
+  heard_own : outcome_of (judged t (listed (standing d h)) m) ≡ Ok tt
+      → ((doing (hear f) (run_bytes b d h)).outcome ≡ Ok tt) × Own (doing (hear f) (run_bytes b d h)).buffer (address f) t (latest (standing d h) (address f)) m
   heard_own e =
-      let done : outcome_of (judgement (standing d h) f) ≡ Done = ap outcome_of judged_as ∙ e in
+      let done : outcome_of (judgement (standing d h) f) ≡ (Ok tt) = ap outcome_of judged_as ∙ e in
       (answer_is b whole d allowed h f ∙ done, rw t-is at (own-by b whole d allowed h f done m (ap (λ (x : Option ℕ). meaning x f) t-is ∙ m-is)))
 
 pub hears_command : HearsCommand

@@ -1,4 +1,5 @@
 -- A refusal changes no byte, as specs/Demand3.antt states it. Assumes nothing.
+use Rattle.std.specs.Prelude.{Err}
 use Prim.Native.Nat.{ℕ}
 use native.Mathlib.Omega.{arith}
 use mathlib.Core.Path.{◌≡◌, refl}
@@ -6,7 +7,6 @@ use mathlib.Core.Bool.{Bool, true, false, cond}
 use mathlib.Core.List.{List}
 use lib.Dec.{eqb, ltb}
 use Rattle.laws.specs.Refusals.{no_room, nothing_kept, too_short}
-use Rattle.shape.specs.declared.answers.Outcome.TheVariants.{Refused}
 use Rattle.shape.specs.Limits.{room}
 use Rattle.places.specs.Runs.{Meaning, refuses, names, enters}
 use Rattle.shape.specs.Result.{Result, refusing, done}
@@ -19,7 +19,7 @@ use Rattle.history.specs.Standing.{hear, back}
 use Rattle.history.specs.Demand3.{doing, RefusedKeeps}
 
 abbrev Keeps : List ℕ → Result → Type 0
-Keeps b r = (n : ℕ) → r.outcome ≡ Refused n → r.buffer ≡ b
+Keeps b r = (n : ℕ) → r.outcome ≡ Err n → r.buffer ≡ b
 
 module _ (b : List ℕ) where
   refusing_keeps : (n : ℕ) → Keeps b (refusing n b)

@@ -1,20 +1,19 @@
 -- The answers to the questions, as the standing frames tell them: `kind` is the type that they tell of the address asked, `known` what they tell of each
 -- of its places. A reader must believe these definitions. Assumes nothing.
-use Rattle.std.specs.Prelude.{ℕ, zero, suc, ◌+◌, ◌/◌, ◌%◌, Bool, cond, ◌&&◌, List, [], ◌∷◌, ◌++◌, ltb, leb, length, drop}
+use Rattle.std.specs.Prelude.{ℕ, zero, suc, ◌+◌, ◌/◌, ◌%◌, Bool, cond, ◌&&◌, List, [], ◌∷◌, ◌++◌, ltb, leb, length, drop, Some, None, Ok}
 use Rattle.std.proofs.Math.Option.{Option, none, some}
 use Rattle.laws.specs.Refusals.{type_not_known, no_such_place, too_short}
 use Rattle.laws.specs.Tab.{tab}
 use Rattle.kinds.specs.Types.{extent_of}
-use Rattle.shape.specs.declared.answers.Answer.{Answer}
-use Rattle.shape.specs.declared.answers.Answer.TheVariants.{Value, NotHeard}
+use Rattle.shape.specs.Answers.{Answer}
 use Rattle.places.specs.Places.{year_place, week_place, led_place, blind_place, character_place, cell_place}
 use Rattle.questions.specs.Question.{Question, type_of, build_year, build_week, cell, led, blind, name_row, name_bytes, memory_row, memory_bytes, Reply, answering, value, refusing}
 use Rattle.history.specs.Standing.{Frame, Known, unknown, told, standing_type}
 
 -- the answer to a question on what is known: a value, or that it is not heard
 abbrev pub answer_of : Known → Answer
-answer_of unknown = NotHeard
-answer_of (told v) = Value v
+answer_of unknown = Ok None
+answer_of (told v) = Ok (Some v)
 
 -- numbers of what is known: the value, or 256; and 1 for told, 0 for not heard
 abbrev pub number_of : Known → ℕ

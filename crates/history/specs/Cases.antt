@@ -1,8 +1,7 @@
 -- Worked cases on the picture: frames heard from one module, in order, and the answer to a question after them. The proof is proofs/Worked.antt.
-use Rattle.std.specs.Prelude.{ℕ, ◌≤◌, List, [], ◌∷◌, map, reverse, ◌≡◌, length}
+use Rattle.std.specs.Prelude.{ℕ, ◌≤◌, List, [], ◌∷◌, map, reverse, ◌≡◌, length, Some, None, Ok, Err}
 use Rattle.laws.specs.Refusals.{no_such_place}
-use Rattle.shape.specs.declared.answers.Answer.{Answer}
-use Rattle.shape.specs.declared.answers.Answer.TheVariants.{Value, NotHeard, Refused}
+use Rattle.shape.specs.Answers.{Answer}
 use Rattle.shape.specs.Layout.{size}
 use Rattle.questions.specs.Question.{Question, Reply, build_year, cell, led, blind}
 use Rattle.questions.specs.Replies.{reply}
@@ -51,32 +50,32 @@ ask c = (told_to deepest c.events c.asked []).answer
 
 abbrev pub cases : List Case
 cases =
-    case (ir ∷ []) build_year (Value 0x0C)
+    case (ir ∷ []) build_year (Ok (Some 0x0C))
     -- an unread cell is neither 0 nor H'FF'
-    ∷ case (ir ∷ []) (cell 5) NotHeard
+    ∷ case (ir ∷ []) (cell 5) (Ok None)
     -- the LEDs with a one, and no other
-    ∷ case (ir ∷ low (0xF8 ∷ 0x02 ∷ []) ∷ []) (led 2) (Value 3)
-    ∷ case (ir ∷ low (0xF8 ∷ 0x02 ∷ []) ∷ []) (led 1) NotHeard
+    ∷ case (ir ∷ low (0xF8 ∷ 0x02 ∷ []) ∷ []) (led 2) (Ok (Some 3))
+    ∷ case (ir ∷ low (0xF8 ∷ 0x02 ∷ []) ∷ []) (led 1) (Ok None)
     -- four cells told; a step back over them
-    ∷ case (ir ∷ low (0xCC ∷ 0x00 ∷ 0x80 ∷ 0x05 ∷ 0x2A ∷ 0x03 ∷ 0x4C ∷ []) ∷ []) (cell 0x83) (Value 0x4C)
-    ∷ case (ir ∷ low (0xCC ∷ 0x00 ∷ 0x80 ∷ 0x05 ∷ 0x2A ∷ 0x03 ∷ 0x4C ∷ []) ∷ back ∷ []) (cell 0x83) NotHeard
+    ∷ case (ir ∷ low (0xCC ∷ 0x00 ∷ 0x80 ∷ 0x05 ∷ 0x2A ∷ 0x03 ∷ 0x4C ∷ []) ∷ []) (cell 0x83) (Ok (Some 0x4C))
+    ∷ case (ir ∷ low (0xCC ∷ 0x00 ∷ 0x80 ∷ 0x05 ∷ 0x2A ∷ 0x03 ∷ 0x4C ∷ []) ∷ back ∷ []) (cell 0x83) (Ok None)
     -- the blind's state told, and unknown once it is moved
-    ∷ case (bl ∷ status 0x03 0x02 ∷ []) (blind 1) (Value 2)
-    ∷ case (bl ∷ status 0x03 0x02 ∷ high (0x04 ∷ 0x03 ∷ []) ∷ []) (blind 1) NotHeard
+    ∷ case (bl ∷ status 0x03 0x02 ∷ []) (blind 1) (Ok (Some 2))
+    ∷ case (bl ∷ status 0x03 0x02 ∷ high (0x04 ∷ 0x03 ∷ []) ∷ []) (blind 1) (Ok None)
     -- two blinds, each by itself
-    ∷ case (bl2 ∷ status 0x03 0x01 ∷ []) (blind 2) NotHeard
-    ∷ case (bl2 ∷ status 0x03 0x01 ∷ status 0x0C 0x08 ∷ []) (blind 1) (Value 1)
-    ∷ case (bl2 ∷ status 0x03 0x01 ∷ status 0x0C 0x08 ∷ []) (blind 2) (Value 2)
-    ∷ case (bl2 ∷ status 0x03 0x01 ∷ status 0x0C 0x08 ∷ high (0x04 ∷ 0x0C ∷ []) ∷ []) (blind 1) (Value 1)
-    ∷ case (bl2 ∷ status 0x03 0x01 ∷ status 0x0C 0x08 ∷ high (0x04 ∷ 0x0C ∷ []) ∷ []) (blind 2) NotHeard
-    ∷ case (bl2 ∷ []) (blind 3) (Refused no_such_place)
-    ∷ case (bl ∷ []) (blind 2) (Refused no_such_place)
+    ∷ case (bl2 ∷ status 0x03 0x01 ∷ []) (blind 2) (Ok None)
+    ∷ case (bl2 ∷ status 0x03 0x01 ∷ status 0x0C 0x08 ∷ []) (blind 1) (Ok (Some 1))
+    ∷ case (bl2 ∷ status 0x03 0x01 ∷ status 0x0C 0x08 ∷ []) (blind 2) (Ok (Some 2))
+    ∷ case (bl2 ∷ status 0x03 0x01 ∷ status 0x0C 0x08 ∷ high (0x04 ∷ 0x0C ∷ []) ∷ []) (blind 1) (Ok (Some 1))
+    ∷ case (bl2 ∷ status 0x03 0x01 ∷ status 0x0C 0x08 ∷ high (0x04 ∷ 0x0C ∷ []) ∷ []) (blind 2) (Ok None)
+    ∷ case (bl2 ∷ []) (blind 3) (Err no_such_place)
+    ∷ case (bl ∷ []) (blind 2) (Err no_such_place)
     -- an exchanged module keeps nothing
-    ∷ case (ir ∷ low (0xFE ∷ 0x00 ∷ 0x05 ∷ 0x2A ∷ []) ∷ bl ∷ []) (cell 5) NotHeard
-    ∷ case (bl ∷ status 0x03 0x01 ∷ bl2 ∷ []) (blind 1) NotHeard
-    ∷ case (ir ∷ bl ∷ []) (cell 128) (Refused no_such_place)
-    ∷ case (ir ∷ bl ∷ []) (led 1) (Refused no_such_place)
-    ∷ case (ir ∷ []) (blind 1) (Refused no_such_place)
+    ∷ case (ir ∷ low (0xFE ∷ 0x00 ∷ 0x05 ∷ 0x2A ∷ []) ∷ bl ∷ []) (cell 5) (Ok None)
+    ∷ case (bl ∷ status 0x03 0x01 ∷ bl2 ∷ []) (blind 1) (Ok None)
+    ∷ case (ir ∷ bl ∷ []) (cell 128) (Err no_such_place)
+    ∷ case (ir ∷ bl ∷ []) (led 1) (Err no_such_place)
+    ∷ case (ir ∷ []) (blind 1) (Err no_such_place)
     ∷ []
 
 pub record Worked : Type 0 where

@@ -1,10 +1,8 @@
 -- Demand 3: after any run of frames heard and steps back from a fresh picture, each answer is the one that the standing frames tell.
 -- First of the machine, then of the bytes. The proofs are proofs/Machine.antt, proofs/ModulesListed.antt,
 -- proofs/Demand3.antt and proofs/Refused.antt.
-use Rattle.std.specs.Prelude.{ℕ, zero, suc, ◌+◌, ◌<◌, ◌≤◌, ◌≡◌, List, [], ◌∷◌, reverse, length, get_or}
+use Rattle.std.specs.Prelude.{ℕ, zero, suc, ◌+◌, ◌<◌, ◌≤◌, ◌≡◌, List, [], ◌∷◌, reverse, length, get_or, Err, Some, Ok}
 use Rattle.std.proofs.Math.Option.{Option, none, some}
-use Rattle.shape.specs.declared.answers.Answer.TheVariants.{Value}
-use Rattle.shape.specs.declared.answers.Outcome.TheVariants.{Refused}
 use Rattle.places.specs.Places.{places}
 use Rattle.shape.specs.Result.{Result}
 use Rattle.shape.specs.Layout.{size}
@@ -66,7 +64,7 @@ Tells b a t known = (q : Question) (out : List ℕ) → reply b a q out ≡ told
 
 -- every question, and the answer to every next event
 pub record Answers (b : List ℕ) (d : ℕ) (h : List Event) : Type 0 where
-  pub count : kept_answer b ≡ Value (kept d h)
+  pub count : kept_answer b ≡ Ok (Some (kept d h))
   pub addresses_listed : (out : List ℕ) → listing b out ≡ told_listed (standing d h) out
   pub each : (a : ℕ) → Tells b a (standing_type (standing d h) a) (latest (standing d h) a)
   pub next : (e : Event) → (doing e b).outcome ≡ outcome_of (answered d h e)
@@ -77,4 +75,4 @@ Demand3 = (b : List ℕ) → size ≤ length b → (d : ℕ) → d ≤ deepest �
 
 -- A refusal changes no byte, whatever the bytes are.
 abbrev pub RefusedKeeps : Type 0
-RefusedKeeps = (e : Event) (b : List ℕ) (n : ℕ) → (doing e b).outcome ≡ Refused n → (doing e b).buffer ≡ b
+RefusedKeeps = (e : Event) (b : List ℕ) (n : ℕ) → (doing e b).outcome ≡ Err n → (doing e b).buffer ≡ b

@@ -1,5 +1,5 @@
 -- What an accepted frame changes, place by place; and what a step back over an entry gives back. The proofs are proofs/Effects.antt.
-use Rattle.std.specs.Prelude.{ℕ, suc, ◌<◌, ◌≤◌, ◌≡◌, ◌≢◌, List, ◌∷◌, length}
+use Rattle.std.specs.Prelude.{ℕ, suc, ◌<◌, ◌≤◌, ◌≡◌, ◌≢◌, List, ◌∷◌, length, Ok, Err}
 use Rattle.std.proofs.Math.Option.{Option, none, some}
 use Rattle.laws.specs.Refusals.{no_room}
 use Rattle.frame.specs.Identifiers.{address_of}
@@ -7,8 +7,6 @@ use Rattle.kinds.specs.Types.{no_type}
 use Rattle.judging.specs.Reading.{reading}
 use Rattle.frame.specs.declared.messages.Command.{Command}
 use Rattle.frame.specs.declared.messages.Message.TheVariants as message
-use Rattle.frame.specs.declared.messages.Reading.TheVariants.{Read}
-use Rattle.shape.specs.declared.answers.Outcome.TheVariants.{Done, Refused}
 use Rattle.places.specs.Runs.{Run, said, Meaning, refuses, names, enters, meaning_of}
 use Rattle.shape.specs.Layout.{size}
 use Rattle.questions.specs.Question.{Question}
@@ -34,16 +32,16 @@ pub record Effect (b c : List ℕ) (S : List Frame) (f : Frame) : Type 0 where
 -- An accepted frame changes the module that it addresses, as its run says, and no other.
 abbrev pub Effects : Type 0
 Effects =
-    (b : List ℕ) → size ≤ length b → (d : ℕ) → d ≤ deepest → (h : List Event) (f : Frame) → (doing (hear f) (run_bytes b d h)).outcome ≡ Done
+    (b : List ℕ) → size ≤ length b → (d : ℕ) → d ≤ deepest → (h : List Event) (f : Frame) → (doing (hear f) (run_bytes b d h)).outcome ≡ Ok tt
     → Effect (run_bytes b d h) (doing (hear f) (run_bytes b d h)).buffer (standing d h) f
 
 -- The same by what the reader gives. The frame is accepted, and its address then tells this:
 pub record HeardAs (b : List ℕ) (d : ℕ) (h : List Event) (f : Frame) (t : Option ℕ) (known : ℕ → Known) : Type 0 where
-  pub answer : (doing (hear f) (run_bytes b d h)).outcome ≡ Done
+  pub answer : (doing (hear f) (run_bytes b d h)).outcome ≡ Ok tt
   pub tells : Tells (doing (hear f) (run_bytes b d h)).buffer (address f) t known
 
 abbrev pub Reads : ℕ → Frame → Command → Type 0
-Reads kind f m = reading kind f.identifier f.remote f.bytes ≡ Read (address_of f.identifier) (message.Tells m)
+Reads kind f m = reading kind f.identifier f.remote f.bytes ≡ Ok (address_of f.identifier, message.Tells m)
 
 -- a command at a listed module, also FF of the module's own type: the places of its run, and no other, hold what it says
 abbrev pub HearsCommand : Type 0
@@ -86,10 +84,10 @@ pub record Sixteenth (S : List Frame) (f g : Frame) (k l : ℕ) (r q : Run) : Ty
   pub g_enters : meaning none g ≡ enters l q
 
 pub record RoomAgain (b : List ℕ) (d : ℕ) (h : List Event) (f g : Frame) : Type 0 where
-  pub entered : (doing (hear f) (run_bytes b d h)).outcome ≡ Done
-  pub full : (doing (hear g) (run_bytes b d (hear f ∷ h))).outcome ≡ Refused no_room
+  pub entered : (doing (hear f) (run_bytes b d h)).outcome ≡ Ok tt
+  pub full : (doing (hear g) (run_bytes b d (hear f ∷ h))).outcome ≡ Err no_room
   pub gone : Alike (run_bytes b d h) (run_bytes b d (back ∷ hear f ∷ h)) (address f)
-  pub again : (doing (hear g) (run_bytes b d (back ∷ hear f ∷ h))).outcome ≡ Done
+  pub again : (doing (hear g) (run_bytes b d (back ∷ hear f ∷ h))).outcome ≡ Ok tt
 
 abbrev pub RoomUsedAgain : Type 0
 RoomUsedAgain =

@@ -1,13 +1,12 @@
 -- Demand 3's side: which frames stand, how many steps back are kept, and what the standing frames tell. A reader must believe these definitions;
 -- they know nothing of slots, logs and bytes. Lists of frames and of events have the LATEST first. Assumes nothing.
-use Rattle.std.specs.Prelude.{ℕ, zero, suc, pred, min, Bool, true, false, cond, List, [], ◌∷◌, eqb, ltb}
+use Rattle.shape.specs.Answers.{Outcome}
+use Rattle.std.specs.Prelude.{ℕ, zero, suc, pred, min, Bool, true, false, cond, List, [], ◌∷◌, eqb, ltb, Ok, Err}
 use Rattle.std.proofs.Math.Option.{Option, none, some}
 use Rattle.laws.specs.Refusals.{no_room, nothing_kept}
 use Rattle.frame.specs.Identifiers.{address_of}
 use Rattle.kinds.specs.Types.{no_type}
 use Rattle.judging.specs.Reading.{reading}
-use Rattle.shape.specs.declared.answers.Outcome.{Outcome}
-use Rattle.shape.specs.declared.answers.Outcome.TheVariants as outcome
 use Rattle.places.specs.Runs.{Saying, silent, asks, tells, said, Meaning, refuses, names, enters, read_as}
 
 -- the most modules that are listed, and the greatest depth of a way back: the most steps back that a fresh picture may be told to keep
@@ -105,9 +104,9 @@ judgement S f = judged (standing_type S (address f)) (listed S) (meaning (standi
 
 -- what is answered outside
 unfoldable pub outcome_of : Judgement → Outcome
-outcome_of (refused n) = outcome.Refused n
-outcome_of accepted = outcome.Done
-outcome_of exchanged = outcome.Done
+outcome_of (refused n) = Err n
+outcome_of accepted = Ok tt
+outcome_of exchanged = Ok tt
 
 pub data Event : Type 0 where
   hear : Frame → Event

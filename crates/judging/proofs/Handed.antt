@@ -3,6 +3,7 @@
 --     handed_bad         and a type that may not is 4
 --     type_alike         H'FF' is judged the same, whichever type is handed in
 -- Assumes nothing.
+use Rattle.std.specs.Prelude.{Err}
 use Prim.Native.Nat.{ℕ}
 use mathlib.Core.Path.{◌≡◌}
 use mathlib.Core.Bool.{true, false}
@@ -14,13 +15,12 @@ use Rattle.frame.specs.Bytes.{byte, data_of}
 use Rattle.frame.specs.Messages.{type_command}
 use Rattle.judging.specs.Reading.{frame_refusal, command_refusal, reading}
 use Rattle.frame.specs.declared.messages.Command.{Command}
-use Rattle.frame.specs.declared.messages.Reading.TheVariants.{Refused}
 
 module _ (kind identifier remote : ℕ) where
   pub handed_form : (count : ℕ) → among kind handed_types ≡ true → frame_refusal no_type identifier remote count ≡ frame_refusal kind identifier remote count
   handed_form count h = rw h
 
-  pub handed_bad : (s : List ℕ) → among kind handed_types ≡ false → reading kind identifier remote s ≡ Refused bad_type
+  pub handed_bad : (s : List ℕ) → among kind handed_types ≡ false → reading kind identifier remote s ≡ Err bad_type
   unfolding reading
   handed_bad s h = rw h
 

@@ -9,6 +9,7 @@
 --     read_told          number 0 and a frame with data: its message
 --     accepted_as        number 0: the frame's address, with the type request or the message of the bytes
 -- Assumes nothing.
+use Rattle.std.specs.Prelude.{Ok, Err}
 use Prim.Native.Nat.{ℕ}
 use mathlib.Core.Path.{◌≡◌, refl, sym, ap, ◌∙◌}
 use mathlib.Core.List.{List, [], ◌∷◌}
@@ -23,14 +24,12 @@ use Rattle.kinds.specs.Types.{row_for, is_listed}
 use Rattle.frame.specs.Bytes.{data_of, bytes_of}
 use Rattle.frame.specs.Messages.{decode}
 use Rattle.fields.specs.Fields.{field_refusal}
-use Rattle.judging.specs.Reading.{frame_refusal, by_row, command_refusal, request_refusal, request_read, command_read, reading, reading_number}
+use Rattle.judging.specs.Reading.{frame_refusal, by_row, command_refusal, request_refusal, request_read, command_read, reading, reading_number, Reading}
 use Rattle.frame.specs.declared.bytes.Data.{Data}
 use Rattle.frame.specs.declared.identifiers.Address.{Address}
 use Rattle.frame.specs.declared.messages.Command.{Command}
 use Rattle.frame.specs.declared.messages.Message.{Message}
 use Rattle.frame.specs.declared.messages.Message.TheVariants.{TypeRequest, Tells}
-use Rattle.frame.specs.declared.messages.Reading.{Reading}
-use Rattle.frame.specs.declared.messages.Reading.TheVariants.{Read, Refused}
 
 -- the bytes of d behind the command c
 abbrev pub behind : ℕ → Data → List ℕ
@@ -50,29 +49,29 @@ by_row_lem kind c count priority fault = go (is_listed kind c) (eqb count (row_f
     go true true false = refl
     go true true true = refl
 
-pub refused_as : (r : Reading) {n : ℕ} → n ≡ reading_number r → (n ≡ 0 → ⊥) → Refused n ≡ r
-refused_as (Read a m) e h = absurd (h e)
-refused_as (Refused k) e h = ap Refused e
+pub refused_as : (r : Reading) {n : ℕ} → n ≡ reading_number r → (n ≡ 0 → ⊥) → Err n ≡ r
+refused_as (Ok (a, m)) e h = absurd (h e)
+refused_as (Err k) e h = ap Err e
 
 -- an answer whose number is 0 was not refused
-unrefused_at : (n : ℕ) (answer : Reading) → reading_number (unless_refused Refused n answer) ≡ 0 → unless_refused Refused n answer ≡ answer
+unrefused_at : (n : ℕ) (answer : Reading) → reading_number (unless_refused Err n answer) ≡ 0 → unless_refused Err n answer ≡ answer
 unrefused_at n answer = go (eqb n 0) refl
   where
-    go : (b : Bool) → eqb n 0 ≡ b → reading_number (cond b answer (Refused n)) ≡ 0 → cond b answer (Refused n) ≡ answer
+    go : (b : Bool) → eqb n 0 ≡ b → reading_number (cond b answer (Err n)) ≡ 0 → cond b answer (Err n) ≡ answer
     go true q z = refl
     go false q z = absurd (eqb-false n 0 q z)
 
 -- a frame that passed its own tests, and then its remote flag's
 passed :
     (remote n m : ℕ) (request told : Reading) →
-    reading_number (cond (eqb remote 1) (unless_refused Refused n request) (unless_refused Refused m told)) ≡ 0 →
-    cond (eqb remote 1) (unless_refused Refused n request) (unless_refused Refused m told) ≡ cond (eqb remote 1) request told
+    reading_number (cond (eqb remote 1) (unless_refused Err n request) (unless_refused Err m told)) ≡ 0 →
+    cond (eqb remote 1) (unless_refused Err n request) (unless_refused Err m told) ≡ cond (eqb remote 1) request told
 passed remote n m request told = go (eqb remote 1)
   where
     go :
         (b : Bool) →
-        reading_number (cond b (unless_refused Refused n request) (unless_refused Refused m told)) ≡ 0 →
-        cond b (unless_refused Refused n request) (unless_refused Refused m told) ≡ cond b request told
+        reading_number (cond b (unless_refused Err n request) (unless_refused Err m told)) ≡ 0 →
+        cond b (unless_refused Err n request) (unless_refused Err m told) ≡ cond b request told
     go true z = unrefused_at n request z
     go false z = unrefused_at m told z
 
@@ -80,7 +79,7 @@ pub accepted_as :
     (kind identifier remote : ℕ) (s : List ℕ) →
     reading_number (reading kind identifier remote s) ≡ 0 →
     reading kind identifier remote s
-    ≡ cond (eqb remote 1) (Read (address_of identifier) TypeRequest) (Read (address_of identifier) (Tells (decode (bytes_of (data_of s)))))
+    ≡ cond (eqb remote 1) (Ok (address_of identifier, TypeRequest)) (Ok (address_of identifier, Tells (decode (bytes_of (data_of s)))))
 unfolding reading request_read command_read
 accepted_as kind identifier remote s z =
     let p : ℕ = priority_of identifier in
@@ -88,10 +87,10 @@ accepted_as kind identifier remote s z =
     let framed = unrefused_at (frame_refusal kind identifier remote (length s)) _ z in
     framed ∙ passed remote (request_refusal p) (command_refusal kind p (data_of s) m) _ _ (sym (ap reading_number framed) ∙ z)
 
-number_of : (n : ℕ) (a : Address) (m : Message) → reading_number (unless_refused Refused n (Read a m)) ≡ n
+number_of : (n : ℕ) (a : Address) (m : Message) → reading_number (unless_refused Err n (Ok (a, m))) ≡ n
 number_of n a m = go (eqb n 0) (eqb-true n 0)
   where
-    go : (b : Bool) → (b ≡ true → n ≡ 0) → reading_number (cond b (Read a m) (Refused n)) ≡ n
+    go : (b : Bool) → (b ≡ true → n ≡ 0) → reading_number (cond b (Ok (a, m)) (Err n)) ≡ n
     go true q = sym (q refl)
     go false q = refl
 
@@ -127,7 +126,7 @@ module _ (kind identifier remote : ℕ) (s : List ℕ) {n : ℕ} where
       remote ≡ 1 →
       {a : Address} →
       a ≡ address_of identifier →
-      Read a TypeRequest ≡ reading kind identifier remote s
+      Ok (a, TypeRequest) ≡ reading kind identifier remote s
   read_request e z q h = rw (accepted_as kind identifier remote s (sym e ∙ z), eq-eqb remote 1 q, h)
 
   pub read_told :
@@ -137,5 +136,5 @@ module _ (kind identifier remote : ℕ) (s : List ℕ) {n : ℕ} where
       {a : Address} {m : Message} →
       a ≡ address_of identifier →
       m ≡ Tells (decode (bytes_of (data_of s))) →
-      Read a m ≡ reading kind identifier remote s
+      Ok (a, m) ≡ reading kind identifier remote s
   read_told e z q h t = rw (accepted_as kind identifier remote s (sym e ∙ z), ne_eqb remote 1 q, h, t)

@@ -1,5 +1,5 @@
 -- What a frame reads as: the refusals in document 01's order, then the message.
-use Rattle.std.specs.Prelude.{ℕ, List, not, cond, length, eqb, leb}
+use Rattle.std.specs.Prelude.{ℕ, List, not, cond, length, eqb, leb, Result, Ok, Err}
 use Rattle.laws.specs.Refusals.{bad_identifier, sid0_set, bad_form, bad_priority, bad_type, type_not_known, not_listed, wrong_length, wrong_priority}
 use Rattle.laws.specs.Tests.{among, unless, unless_refused}
 use Rattle.laws.specs.Answers.{Numbers, value, refusal, refusal_in}
@@ -11,9 +11,12 @@ use Rattle.fields.specs.Fields.{fault, field_refusal}
 use Rattle.frame.specs.declared.bytes.Data.{Data}
 use Rattle.frame.specs.declared.identifiers.Address.{Address}
 use Rattle.frame.specs.declared.messages.Command.{Command}
+use Rattle.frame.specs.declared.messages.Message.{Message}
 use Rattle.frame.specs.declared.messages.Message.TheVariants.{TypeRequest, Tells}
-use Rattle.frame.specs.declared.messages.Reading.{Reading}
-use Rattle.frame.specs.declared.messages.Reading.TheVariants.{Read, Refused}
+
+-- what a frame reads as: the address and the message, or the number of a refusal
+abbrev pub Reading : Type 0
+Reading = Result (Address × Message) ℕ
 
 -- a bad handed-in type, then 1, 17, 2, 3
 abbrev pub frame_refusal : ℕ → ℕ → ℕ → ℕ → ℕ
@@ -51,27 +54,27 @@ command_refusal kind priority d m =
 -- a frame with data
 unfoldable pub command_read : ℕ → ℕ → Address → Data → Reading
 command_read kind priority a d =
-    unless_refused Refused (command_refusal kind priority d (decode (bytes_of d))) (Read a (Tells (decode (bytes_of d))))
+    unless_refused Err (command_refusal kind priority d (decode (bytes_of d))) (Ok (a, Tells (decode (bytes_of d))))
 
 -- a remote frame is the type request, at any address, with only 8 left to test
 abbrev pub request_refusal : ℕ → ℕ
 request_refusal priority = unless (eqb priority low) wrong_priority 0
 
 unfoldable pub request_read : ℕ → Address → Reading
-request_read priority a = unless_refused Refused (request_refusal priority) (Read a TypeRequest)
+request_read priority a = unless_refused Err (request_refusal priority) (Ok (a, TypeRequest))
 
 -- the type handed in, the identifier, the remote flag, the data
 unfoldable pub reading : ℕ → ℕ → ℕ → List ℕ → Reading
 reading kind identifier remote s =
-    unless_refused Refused (frame_refusal kind identifier remote (length s))
+    unless_refused Err (frame_refusal kind identifier remote (length s))
     (cond (eqb remote 1)
     (request_read (priority_of identifier) (address_of identifier))
     (command_read kind (priority_of identifier) (address_of identifier) (data_of s)))
 
 -- in the paper's numbers, a 9 with its byte
 abbrev pub reading_numbers : Reading → Numbers
-reading_numbers (Read a m) = value 0
-reading_numbers (Refused n) = refusal n
+reading_numbers (Ok (a, m)) = value 0
+reading_numbers (Err n) = refusal n
 
 abbrev pub reading_number : Reading → ℕ
 reading_number r = refusal_in (reading_numbers r)

@@ -1,5 +1,6 @@
-// A frame judged on its bytes, with no message made of it: the first refusal in document 01's order, a 9 with its byte, and 0 where there is none.
+// A frame judged on its bytes, with no message made of it: the first refusal in document 01's order.
 ghost use Rattle.std.specs.Prelude.{◌≡◌, ℕ, eqb};
+ghost use Rattle.laws.specs.Codes.{code_of, code_in};
 ghost use Rattle.laws.specs.Refusals.{bad_identifier, sid0_set};
 ghost use Rattle.laws.specs.Tests.{unless};
 ghost use Rattle.frame.specs.Identifiers.{eleven_bits};
@@ -11,38 +12,39 @@ ghost use Rattle.judging.specs.Reading.{frame_refusal, command_refusal, request_
 use crate::rows::refusal_by_row;
 use frame::{LOW, TYPE_FRAME, known_priority, well_formed};
 use kinds::{NO_TYPE, handed_type, module_type};
-use laws::{
-    BAD_FORM, BAD_IDENTIFIER, BAD_PRIORITY, BAD_TYPE, MOST_IDENTIFIER, SID0_SET, TYPE_NOT_KNOWN,
-    WRONG_LENGTH, WRONG_PRIORITY, both, byte_at, unless, wide32,
-};
+use laws::{MOST_IDENTIFIER, Refusal, both, byte_at, wide32};
 
 // What an identifier that fails either test is refused for. Apart, so that a frame that passes both has one test.
-fn identifier_refusal(identifier: u32) -> u16
-    ensures { result ≡ unless (eleven_bits identifier) bad_identifier sid0_set }
+fn identifier_refusal(identifier: u32) -> Refusal
+    ensures { code_of result ≡ unless (eleven_bits identifier) bad_identifier sid0_set }
 {
-    unless(identifier <= MOST_IDENTIFIER, BAD_IDENTIFIER, SID0_SET)
+    if identifier <= MOST_IDENTIFIER {
+        Refusal::Sid0Set
+    } else {
+        Refusal::BadIdentifier
+    }
 }
 
 // Whatever the frame says: 4, 1, 17, 2, 3.
-fn frame_refusal(kind: u32, identifier: u32, remote: u32, count: usize) -> u16
-    ensures { result ≡ frame_refusal kind identifier remote count }
+fn frame_refusal(kind: u32, identifier: u32, remote: u32, count: usize) -> Result<(), Refusal>
+    ensures { code_in result ≡ frame_refusal kind identifier remote count }
 {
     if !handed_type(kind) {
-        return BAD_TYPE;
+        return Err(Refusal::BadType);
     }
     if !both(identifier <= MOST_IDENTIFIER, identifier % 2 == 0) {
-        return identifier_refusal(identifier);
+        return Err(identifier_refusal(identifier));
     }
     if !well_formed(remote, count) {
-        return BAD_FORM;
+        return Err(Refusal::BadForm);
     }
     if !known_priority(identifier / 512) {
-        return BAD_PRIORITY;
+        return Err(Refusal::BadPriority);
     }
-    0
+    Ok(())
 }
 
-// Whether there is none of these, at a type that may be handed in: no number is made of a frame that passes.
+// Whether there is none of these, at a type that may be handed in.
 pub fn is_frame(identifier: u32, remote: u32, count: usize) -> bool
     ensures { result ≡ eqb (frame_refusal no_type identifier remote count) 0 }
 {
@@ -56,67 +58,68 @@ pub fn is_frame(identifier: u32, remote: u32, count: usize) -> bool
 }
 
 // Which it is.
-pub fn form_refusal(identifier: u32, remote: u32, count: usize) -> u16
-    ensures { result ≡ frame_refusal no_type identifier remote count }
+pub fn form_refusal(identifier: u32, remote: u32, count: usize) -> Result<(), Refusal>
+    ensures { code_in result ≡ frame_refusal no_type identifier remote count }
 {
     frame_refusal(NO_TYPE, identifier, remote, count)
 }
 
 // H'FF', by the type inside it, whatever type is handed in: 7, 4, then the row's and the fields'.
-fn type_refusal(priority: u32, data: &[u8]) -> u16
+fn type_refusal(priority: u32, data: &[u8]) -> Result<(), Refusal>
     requires { byte 1 «data».now ≡ type_command }
-    ensures { (kind : ℕ) → result ≡ command_refusal kind priority (data_of «data».now) (decode (bytes_of (data_of «data».now))) }
+    ensures { (kind : ℕ) → code_in result ≡ command_refusal kind priority (data_of «data».now) (decode (bytes_of (data_of «data».now))) }
 {
     if data.len() < 2 {
-        return WRONG_LENGTH;
+        return Err(Refusal::WrongLength);
     }
     let own = wide32(byte_at(data, 1));
     if !module_type(own) {
-        return BAD_TYPE;
+        return Err(Refusal::BadType);
     }
     refusal_by_row(own, TYPE_FRAME, priority, data)
 }
 
 // A frame with data: H'FF', or any other command, by the type handed in: 5, then the row's and the fields'.
-fn command_refusal(kind: u32, priority: u32, data: &[u8]) -> u16
-    ensures { result ≡ command_refusal kind priority (data_of «data».now) (decode (bytes_of (data_of «data».now))) }
+fn command_refusal(kind: u32, priority: u32, data: &[u8]) -> Result<(), Refusal>
+    ensures { code_in result ≡ command_refusal kind priority (data_of «data».now) (decode (bytes_of (data_of «data».now))) }
 {
     let command = byte_at(data, 0);
     if command == TYPE_FRAME {
         return type_refusal(priority, data);
     }
     if kind == NO_TYPE {
-        return TYPE_NOT_KNOWN;
+        return Err(Refusal::TypeNotKnown);
     }
     refusal_by_row(kind, command, priority, data)
 }
 
 // The same at no type, and of H'FF' at any.
-pub fn untyped_refusal(priority: u32, data: &[u8]) -> u16
-    ensures { result ≡ command_refusal no_type priority (data_of «data».now) (decode (bytes_of (data_of «data».now))) }
+pub fn untyped_refusal(priority: u32, data: &[u8]) -> Result<(), Refusal>
+    ensures { code_in result ≡ command_refusal no_type priority (data_of «data».now) (decode (bytes_of (data_of «data».now))) }
 {
     if byte_at(data, 0) == TYPE_FRAME {
         type_refusal(priority, data)
     } else {
-        TYPE_NOT_KNOWN
+        Err(Refusal::TypeNotKnown)
     }
 }
 
 // A remote frame, at any address.
-pub fn request_refusal(priority: u32) -> u16
-    ensures { result ≡ request_refusal priority }
+pub fn request_refusal(priority: u32) -> Result<(), Refusal>
+    ensures { code_in result ≡ request_refusal priority }
 {
-    if priority == LOW { 0 } else { WRONG_PRIORITY }
+    if priority == LOW {
+        Ok(())
+    } else {
+        Err(Refusal::WrongPriority)
+    }
 }
 
 // Any frame, by the type handed in, or none.
-pub fn judge(kind: u32, identifier: u32, remote: u32, data: &[u8]) -> u16
-    ensures { result ≡ reading_number (reading kind identifier remote «data».now) }
+pub fn judge(kind: u32, identifier: u32, remote: u32, data: &[u8]) -> Result<(), Refusal>
+    ensures { code_in result ≡ reading_number (reading kind identifier remote «data».now) }
 {
-    let n = frame_refusal(kind, identifier, remote, data.len());
-    if n != 0 {
-        return n;
-    }
+    frame_refusal(kind, identifier, remote, data.len())?;
     let priority = identifier / 512;
     if remote == 1 {
         request_refusal(priority)
@@ -126,13 +129,10 @@ pub fn judge(kind: u32, identifier: u32, remote: u32, data: &[u8]) -> u16
 }
 
 // Of an address with no type: only the type request and H'FF' can pass.
-pub fn refusal_unlisted(identifier: u32, remote: u32, data: &[u8]) -> u16
-    ensures { result ≡ reading_number (reading no_type identifier remote «data».now) }
+pub fn refusal_unlisted(identifier: u32, remote: u32, data: &[u8]) -> Result<(), Refusal>
+    ensures { code_in result ≡ reading_number (reading no_type identifier remote «data».now) }
 {
-    let n = form_refusal(identifier, remote, data.len());
-    if n != 0 {
-        return n;
-    }
+    form_refusal(identifier, remote, data.len())?;
     let priority = identifier / 512;
     if remote == 1 {
         request_refusal(priority)

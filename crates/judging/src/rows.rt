@@ -1,6 +1,7 @@
 // A frame with data judged on its bytes: by its row in the type's list, then by its fields, whose rules the writer goes by too. A field is
 // read only where the length is the row's.
 ghost use Rattle.std.specs.Prelude.{◌≡◌, ℕ};
+ghost use Rattle.laws.specs.Codes.{code_in};
 ghost use Rattle.frame.specs.Bytes.{byte, data_of, bytes_of};
 ghost use Rattle.frame.specs.Messages.{location_in, time_in, type_frame, decode};
 ghost use Rattle.fields.specs.Fields.{fault, field_refusal};
@@ -11,23 +12,23 @@ use fields::{
     name_asked_fault, status_asked_fault, stop_fault, timed_fault, type_short_fault,
 };
 use frame::{Location, TYPE_FRAME, Time, has_long, location_of, number24, row_for, time_of};
-use laws::{NOT_LISTED, WRONG_LENGTH, WRONG_PRIORITY, byte_at, wide32};
+use laws::{Refusal, byte_at, wide32};
 
 // What the command's row has against the frame, whatever its fields are: 6, 7, 8.
-fn misfit(own: u32, command: u8, count: usize, priority: u32) -> u16
-    ensures { result ≡ by_row own command count priority 0 }
+fn misfit(own: u32, command: u8, count: usize, priority: u32) -> Result<(), Refusal>
+    ensures { code_in result ≡ by_row own command count priority 0 }
 {
     let row = row_for(own, command);
     if row.0 == 0 {
-        return NOT_LISTED;
+        return Err(Refusal::NotListed);
     }
     if count != row.0 {
-        return WRONG_LENGTH;
+        return Err(Refusal::WrongLength);
     }
     if priority != row.1 {
-        return WRONG_PRIORITY;
+        return Err(Refusal::WrongPriority);
     }
-    0
+    Ok(())
 }
 
 fn location_in(data: &[u8]) -> Location
@@ -43,21 +44,21 @@ fn time_in(data: &[u8]) -> Time
 }
 
 // H'FF', by its shape.
-fn type_fault(data: &[u8]) -> u16
-    ensures { (own : ℕ) → result ≡ field_refusal (fault own (type_frame «data».now)) }
+fn type_fault(data: &[u8]) -> Result<(), Refusal>
+    ensures { (own : ℕ) → code_in result ≡ field_refusal (fault own (type_frame «data».now)) }
 {
     let own = byte_at(data, 1);
     if has_long(own) {
-        0
+        Ok(())
     } else {
         type_short_fault(wide32(own), byte_at(data, 2))
     }
 }
 
 // What the fields of a frame of the type `own` are refused for, by its command; those of every command without an arm are free.
-fn fault_in(own: u32, command: u8, data: &[u8]) -> u16
+fn fault_in(own: u32, command: u8, data: &[u8]) -> Result<(), Refusal>
     requires { command ≡ byte 1 «data».now }
-    ensures { result ≡ field_refusal (fault own (decode (bytes_of (data_of «data».now)))) }
+    ensures { code_in result ≡ field_refusal (fault own (decode (bytes_of (data_of «data».now)))) }
 {
     match command {
         0x00 => buttons_fault(own, byte_at(data, 1), byte_at(data, 2), byte_at(data, 3)),
@@ -83,18 +84,20 @@ fn fault_in(own: u32, command: u8, data: &[u8]) -> u16
         0x05 => timed_fault(own, byte_at(data, 1), time_in(data)),
         0x06 => timed_fault(own, byte_at(data, 1), time_in(data)),
         TYPE_FRAME => type_fault(data),
-        _ => 0,
+        _ => Ok(()),
     }
 }
 
 // A frame of the type `own`, by its command: 6, 7, 8, 9.
-pub(crate) fn refusal_by_row(own: u32, command: u8, priority: u32, data: &[u8]) -> u16
+pub(crate) fn refusal_by_row(
+    own: u32,
+    command: u8,
+    priority: u32,
+    data: &[u8],
+) -> Result<(), Refusal>
     requires { command ≡ byte 1 «data».now }
-    ensures { result ≡ row_refusal own priority (data_of «data».now) (decode (bytes_of (data_of «data».now))) }
+    ensures { code_in result ≡ row_refusal own priority (data_of «data».now) (decode (bytes_of (data_of «data».now))) }
 {
-    let n = misfit(own, command, data.len(), priority);
-    if n != 0 {
-        return n;
-    }
+    misfit(own, command, data.len(), priority)?;
     fault_in(own, command, data)
 }

@@ -1,4 +1,4 @@
--- The shapes of our contracts, and that each leaves a function no choice: two results that satisfy a promise are equal. The proof is
+-- The shapes of our contracts, in the papers' numbers, and that each leaves a function no choice: two results that satisfy a promise are equal. The proof is
 -- proofs/Promises.antt.
 use Rattle.std.specs.Prelude.{◌≡◌}
 

@@ -1,5 +1,6 @@
 -- A message that is laid out and taken in again is the same message.
 -- Assumes nothing.
+use Rattle.std.specs.Prelude.{Some}
 use Prim.Native.Nat.{ℕ, ◌+◌, ◌*◌, ◌/◌, ◌%◌, ◌<◌, ◌≤◌}
 use native.Mathlib.Omega.{arith}
 use mathlib.Core.Path.{◌≡◌, refl}
@@ -19,7 +20,6 @@ use Rattle.frame.specs.declared.messages.Message.{Message}
 use Rattle.frame.specs.declared.messages.Message.TheVariants.{TypeRequest, Tells}
 use Rattle.layouts.specs.declared.parts.Six.{Six}
 use Rattle.layouts.specs.declared.parts.Parts.{Parts}
-use Rattle.layouts.specs.declared.parts.Held.TheVariants.{Holds}
 use Rattle.layouts.specs.Parts.{Numbered, long_types, short_types, no_message, number_in, command_parts, parts_of, command_from, message_from, address_in, same_six, same_parts, held_by}
 use Rattle.layouts.specs.Layout.{message_size, laid_bytes, taken_parts, blank_between, held_in}
 use Rattle.layouts.specs.Statements.{LaidIsHeld}
@@ -111,7 +111,7 @@ unfolding same_parts
 same_self p =
     rw (self p.what, self p.address, self p.channel, self p.glow, self p.location, same-six_self p.bytes, self p.time, self p.seconds)
 
-holds_itself : (a : Address) (m : Message) → (parts_of a m).what < no_message → held_by (parts_of a m) ≡ Holds a m
+holds_itself : (a : Address) (m : Message) → (parts_of a m).what < no_message → held_by (parts_of a m) ≡ Some (a, m)
 unfolding held_by
 holds_itself a m h = let g = again a m h in rw (g.0, g.1, same_self (parts_of a m))
 

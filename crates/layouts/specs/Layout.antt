@@ -1,9 +1,7 @@
 -- A message's parts in 20 bytes, each number low byte first.
-use Rattle.std.specs.Prelude.{ℕ, ◌+◌, ◌*◌, ◌/◌, ◌%◌, List, [], ◌∷◌, Bool, cond, ◌&&◌, eqb, ltb, get_or, length}
+use Rattle.std.specs.Prelude.{ℕ, ◌+◌, ◌*◌, ◌/◌, ◌%◌, List, [], ◌∷◌, Bool, cond, ◌&&◌, eqb, ltb, get_or, length, None}
 use Rattle.layouts.specs.declared.parts.Parts.{Parts}
-use Rattle.layouts.specs.declared.parts.Held.{Held}
-use Rattle.layouts.specs.declared.parts.Held.TheVariants.{Nothing}
-use Rattle.layouts.specs.Parts.{six, held_by}
+use Rattle.layouts.specs.Parts.{six, held_by, Held}
 
 abbrev pub message_size : ℕ
 message_size = 20
@@ -37,4 +35,4 @@ blank_between b = eqb (get_or b 13 0) 0 && (eqb (get_or b 14 0) 0 && eqb (get_or
 
 -- the message that the first bytes are; fewer than a message has are none
 unfoldable pub held_in : List ℕ → Held
-held_in b = cond (ltb (length b) message_size) Nothing (cond (blank_between b) (held_by (taken_parts b)) Nothing)
+held_in b = cond (ltb (length b) message_size) None (cond (blank_between b) (held_by (taken_parts b)) None)

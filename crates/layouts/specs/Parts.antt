@@ -1,5 +1,5 @@
 -- A message as fields of numbers, the same fields for every message; a field that a message does not have is 0.
-use Rattle.std.specs.Prelude.{ℕ, List, [], ◌∷◌, Bool, cond, ◌&&◌, eqb}
+use Rattle.std.specs.Prelude.{ℕ, List, [], ◌∷◌, Bool, cond, ◌&&◌, eqb, Option, Some, None}
 use Rattle.laws.specs.Tests.{first_for}
 use Rattle.kinds.specs.Types.{vmb1bl, vmb8ir, vmb2bl}
 use Rattle.frame.specs.declared.identifiers.Address.{Address}
@@ -15,8 +15,6 @@ use Rattle.frame.specs.declared.messages.Message.TheVariants.{TypeRequest, Tells
 use Rattle.places.specs.Runs.{glow_number}
 use Rattle.layouts.specs.declared.parts.Six.{Six}
 use Rattle.layouts.specs.declared.parts.Parts.{Parts}
-use Rattle.layouts.specs.declared.parts.Held.{Held}
-use Rattle.layouts.specs.declared.parts.Held.TheVariants.{Holds, Nothing}
 
 -- ---- the numbers of LED states and of times
 abbrev pub glow_from : ℕ → Glow
@@ -170,15 +168,19 @@ address_in p = record { 0 = p.address }
 
 -- field by field the same
 unfoldable pub same_six : Six → Six → Bool
-same_six p q =
-    (eqb p.0 q.0 && (eqb p.1 q.1 && eqb p.2 q.2)) && (eqb p.3 q.3 && (eqb p.4 q.4 && eqb p.5 q.5))
+same_six p q = eqb p.0 q.0 && (eqb p.1 q.1 && (eqb p.2 q.2 && (eqb p.3 q.3 && (eqb p.4 q.4 && eqb p.5 q.5))))
 
 unfoldable pub same_parts : Parts → Parts → Bool
 same_parts p q =
-    (eqb p.what q.what && (eqb p.address q.address && eqb p.channel q.channel))
-    && ((eqb p.glow q.glow && (eqb p.location q.location && same_six p.bytes q.bytes))
-    && (eqb p.time q.time && eqb p.seconds q.seconds))
+    eqb p.what q.what
+    && (eqb p.address q.address
+    && (eqb p.channel q.channel
+    && (eqb p.glow q.glow && (eqb p.location q.location && (same_six p.bytes q.bytes && (eqb p.time q.time && eqb p.seconds q.seconds))))))
+
+-- the message that some parts are, with its address
+abbrev pub Held : Type 0
+Held = Option (Address × Message)
 
 -- parts are a message where they are just the parts of one
 unfoldable pub held_by : Parts → Held
-held_by p = cond (same_parts (parts_of (address_in p) (message_from p)) p) (Holds (address_in p) (message_from p)) Nothing
+held_by p = cond (same_parts (parts_of (address_in p) (message_from p)) p) (Some (address_in p, message_from p)) None

@@ -1,8 +1,7 @@
 -- What is promised of a message that is laid out. The proof is proofs/Held.antt.
-use Rattle.std.specs.Prelude.{ℕ, ◌<◌, ◌≡◌, List, ◌++◌}
+use Rattle.std.specs.Prelude.{ℕ, ◌<◌, ◌≡◌, List, ◌++◌, Some}
 use Rattle.frame.specs.declared.identifiers.Address.{Address}
 use Rattle.frame.specs.declared.messages.Message.{Message}
-use Rattle.layouts.specs.declared.parts.Held.TheVariants.{Holds}
 use Rattle.layouts.specs.Parts.{no_message, parts_of}
 use Rattle.layouts.specs.Layout.{laid_bytes, held_in}
 
@@ -15,4 +14,4 @@ pub record Fitting (a : Address) (m : Message) : Type 0 where
 
 -- a message that is laid out and taken in again is the same message, whatever stands after it
 abbrev pub LaidIsHeld : Type 0
-LaidIsHeld = (a : Address) (m : Message) (after : List ℕ) → Fitting a m → held_in (laid_bytes (parts_of a m) ++ after) ≡ Holds a m
+LaidIsHeld = (a : Address) (m : Message) (after : List ℕ) → Fitting a m → held_in (laid_bytes (parts_of a m) ++ after) ≡ Some (a, m)

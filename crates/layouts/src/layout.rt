@@ -2,7 +2,8 @@
 ghost use Rattle.std.specs.Prelude.{◌≡◌, ◌≤◌, length};
 ghost use Rattle.layouts.specs.Layout.{message_size, laid_bytes, taken_parts, blank_between, held_in};
 
-use crate::parts::{Held, Parts, Six, held_by};
+use crate::parts::{Parts, Six, held_by};
+use frame::{Address, Message};
 use laws::{both, number16, number32};
 
 pub const MESSAGE_SIZE: u16 = 20;
@@ -59,15 +60,15 @@ fn blank_between(b: &[u8]) -> bool
 }
 
 // The message that the first bytes are.
-pub fn held_in(b: &[u8]) -> Held
+pub fn held_in(b: &[u8]) -> Option<(Address, Message)>
     ensures { result ≡ held_in b.now }
 {
     if b.len() < MESSAGE_SIZE as usize {
-        return Held::Nothing;
+        return None;
     }
     if blank_between(b) {
         held_by(taken(b))
     } else {
-        Held::Nothing
+        None
     }
 }

@@ -5,4 +5,4 @@ mod layout;
 mod parts;
 
 pub use layout::{MESSAGE_SIZE, held_in, laid};
-pub use parts::{Held, Parts, Six, held_by, parts_of};
+pub use parts::{Parts, Six, held_by, parts_of};

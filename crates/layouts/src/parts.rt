@@ -24,15 +24,14 @@ ghost use Rattle.layouts.specs.Parts.{
 
 use frame::{Address, Command, Glow, Location, Message, Time};
 use kinds::{VMB1BL, VMB2BL, VMB8IR};
-use laws::both;
 use places::glow_number;
 
 // The bytes of a frame that have no field of their own, in their order.
-#[derive(Clone, Copy)]
+#[derive(Clone, Copy, PartialEq, Eq)]
 pub struct Six(pub u8, pub u8, pub u8, pub u8, pub u8, pub u8);
 
 // `what` is the message's own number; a field that a message does not have is 0.
-#[derive(Clone, Copy)]
+#[derive(Clone, Copy, PartialEq, Eq)]
 pub struct Parts {
     pub what: u8,
     pub address: u8,
@@ -53,13 +52,6 @@ const TWO_BLINDS: u8 = VMB2BL as u8;
 
 // The number that no message has.
 const NO_MESSAGE: u8 = 255;
-
-// The message that some parts are, with its address.
-#[derive(Clone, Copy)]
-pub enum Held {
-    Holds(Address, Message),
-    Nothing,
-}
 
 fn glow_from(n: u8) -> Glow
     ensures { result ≡ glow_from n }
@@ -287,41 +279,15 @@ fn message_from(p: Parts) -> Message
     }
 }
 
-fn same_six(p: Six, q: Six) -> bool
-    ensures { result ≡ same_six p q }
-{
-    let first = both(p.0 == q.0, both(p.1 == q.1, p.2 == q.2));
-    both(first, both(p.3 == q.3, both(p.4 == q.4, p.5 == q.5)))
-}
-
-fn same_parts(p: Parts, q: Parts) -> bool
-    ensures { result ≡ same_parts p q }
-{
-    let x = p.bytes;
-    let y = q.bytes;
-    let named = both(
-        p.what == q.what,
-        both(p.address == q.address, p.channel == q.channel),
-    );
-    let placed = both(
-        p.glow == q.glow,
-        both(p.location == q.location, same_six(x, y)),
-    );
-    both(
-        named,
-        both(placed, both(p.time == q.time, p.seconds == q.seconds)),
-    )
-}
-
 // Parts are a message where they are just the parts of one.
-pub fn held_by(p: Parts) -> Held
+pub fn held_by(p: Parts) -> Option<(Address, Message)>
     ensures { result ≡ held_by p }
 {
     let a = Address(p.address);
     let m = message_from(p);
-    if same_parts(parts_of(a, m), p) {
-        Held::Holds(a, m)
+    if parts_of(a, m) == p {
+        Some((a, m))
     } else {
-        Held::Nothing
+        None
     }
 }

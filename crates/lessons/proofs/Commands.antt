@@ -1,4 +1,5 @@
 -- What a message is that the bench takes: one that a module receives, with allowed fields. Assumes nothing.
+use Rattle.std.specs.Prelude.{Ok, Err, Some, None}
 use Prim.Native.Nat.{ℕ}
 use native.Mathlib.Omega.{arith}
 use mathlib.Core.Path.{◌≡◌, refl, sym, ap, ◌∙◌}
@@ -18,18 +19,14 @@ use Rattle.frame.specs.declared.messages.Command.{Command}
 use Rattle.frame.specs.declared.messages.Command.TheVariants.{TypeLong, TypeShort, Buttons, CellTold, BlockTold, CellAsked, BlockAsked, DumpAsked, CellSet, BlockSet, Errors, ErrorsAsked, NameOne, NameTwo, NameThree, NameAsked, StatusAsked, InputStatus, LedsAll, Leds, BlindStatus, BlindStop, BlindUp, BlindDown}
 use Rattle.frame.specs.declared.messages.Message.{Message}
 use Rattle.frame.specs.declared.messages.Message.TheVariants.{TypeRequest, Tells}
-use Rattle.frame.specs.declared.messages.Reading.{Reading}
-use Rattle.frame.specs.declared.messages.Reading.TheVariants.{Read, Refused}
-use Rattle.judging.specs.Reading.{reading, own_type}
+use Rattle.judging.specs.Reading.{reading, own_type, Reading}
 use Rattle.codec.specs.Encoding.{encode}
-use Rattle.codec.specs.Writing.{handed_refusal, write_refusal, command_frame, written_as, command_written, writing}
+use Rattle.codec.specs.Writing.{Writing, handed_refusal, write_refusal, command_frame, written_as, command_written, writing}
 use Rattle.codec.specs.declared.writer.Frame.{Frame}
-use Rattle.codec.specs.declared.writer.Writing.TheVariants as w
 use Rattle.codec.proofs.Lawful.{Lawful}
 use Rattle.codec.proofs.RoundTrip.{read_then_written, written_lawful}
 use Rattle.shape.specs.Limits.{bus_address}
-use Rattle.verdicts.specs.Verdicts.{first_refusals, sent_only, judged_if, judged}
-use Rattle.verdicts.specs.declared.verdicts.Verdict.TheVariants.{Takes, Silent, Refuses}
+use Rattle.verdicts.specs.Verdicts.{Verdict, first_refusals, sent_only, judged_if, judged}
 use Rattle.lessons.proofs.Doing.{received, no}
 
 abbrev pub Good : Message → Type 0
@@ -40,19 +37,19 @@ yes : {A : Type 0} → true ≡ false → A
 yes e = no (sym e)
 
 -- the frame that the writer made of a command has the command's bytes
-refused_not_written : (n : ℕ) (f : Frame) → w.Refused n ≡ w.Written f → ⊥
+refused_not_written : (n : ℕ) (f : Frame) → ◌≡◌ {A = Writing} (Err n) (Ok f) → ⊥
 refused_not_written n f e = let z : ◌≡◌ {A = ℕ} 0 1 = cc in omega arith
 
-written_bytes_lem : (a : Address) (m : Command) (f : Frame) → writing vmb8ir a (Tells m) ≡ w.Written f → (f.remote ≡ 0) × (f.bytes ≡ data_of (encode m))
+written_bytes_lem : (a : Address) (m : Command) (f : Frame) → writing vmb8ir a (Tells m) ≡ Ok f → (f.remote ≡ 0) × (f.bytes ≡ data_of (encode m))
 unfolding writing command_written written_as
 written_bytes_lem a m f h =
     let u =
-    unrefused w.Refused (handed_refusal vmb8ir (write_refusal (own_type vmb8ir (data_of (encode m))) (data_of (encode m)) m))
-    (w.Written (command_frame (own_type vmb8ir (data_of (encode m))) a (data_of (encode m)))) (w.Written f) (refused_not_written _ f) h in
+    unrefused Err (handed_refusal vmb8ir (write_refusal (own_type vmb8ir (data_of (encode m))) (data_of (encode m)) m))
+    (Ok (command_frame (own_type vmb8ir (data_of (encode m))) a (data_of (encode m)))) (Ok f) (refused_not_written _ f) h in
     let e : command_frame (own_type vmb8ir (data_of (encode m))) a (data_of (encode m)) ≡ f = same (command_frame (own_type vmb8ir (data_of (encode m))) a (data_of (encode m))) u.1 in
     (ap (λ (g : Frame). g.remote) (sym e), ap (λ (g : Frame). g.bytes) (sym e))
   where
-    same : (g : Frame) → w.Written g ≡ w.Written f → g ≡ f
+    same : (g : Frame) → ◌≡◌ {A = Writing} (Ok g) (Ok f) → g ≡ f
     same g e = cc
 
 -- a command in the type's list whose first byte is not one that only a module sends
@@ -83,7 +80,7 @@ command_good (BlindStop c) n h = no h.listed
 command_good (BlindUp c t) n h = no h.listed
 command_good (BlindDown c t) n h = no h.listed
 
-reading_good : (i remote : ℕ) (s : List ℕ) (a : Address) (m : Message) → AllBytes s → eqb remote 0 && among (byte 1 s) sent_only ≡ false → reading vmb8ir i remote s ≡ Read a m → Good m
+reading_good : (i remote : ℕ) (s : List ℕ) (a : Address) (m : Message) → AllBytes s → eqb remote 0 && among (byte 1 s) sent_only ≡ false → reading vmb8ir i remote s ≡ Ok (a, m) → Good m
 reading_good i remote s a TypeRequest bs n h = tt
 reading_good i remote s a (Tells m) bs n h =
     let g = read_then_written vmb8ir i remote s a (Tells m) bs h in
@@ -98,50 +95,50 @@ reading_good i remote s a (Tells m) bs n h =
 pub record Took (own i remote : ℕ) (s : List ℕ) (m : Message) : Type 0 where
   pub here : eqb (bus_address i) own ≡ true
   pub address : Address
-  pub reads : reading vmb8ir i remote s ≡ Read address m
+  pub reads : reading vmb8ir i remote s ≡ Ok (address, m)
   pub good : Good m
 
-by_took : (r : Reading) (own i remote : ℕ) (s : List ℕ) (m : Message) → AllBytes s → reading vmb8ir i remote s ≡ r → judged_if r (eqb (bus_address i) own) (eqb remote 0 && among (byte 1 s) sent_only) ≡ Takes m
+by_took : (r : Reading) (own i remote : ℕ) (s : List ℕ) (m : Message) → AllBytes s → reading vmb8ir i remote s ≡ r → judged_if r (eqb (bus_address i) own) (eqb remote 0 && among (byte 1 s) sent_only) ≡ Ok (Some m)
     → Took own i remote s m
 unfolding judged_if
-by_took (Refused n) own i remote s m bs e h = absurd (go (among n first_refusals) (eqb (bus_address i) own) (eqb remote 0 && among (byte 1 s) sent_only) h)
+by_took (Err n) own i remote s m bs e h = absurd (go (among n first_refusals) (eqb (bus_address i) own) (eqb remote 0 && among (byte 1 s) sent_only) h)
   where
-    go : (x y z : Bool) → cond x (Refuses n) (cond y (cond z (Refuses not_listed) (Refuses n)) Silent) ≡ Takes m → ⊥
+    go : (x y z : Bool) → ◌≡◌ {A = Verdict} (cond x (Err n) (cond y (cond z (Err not_listed) (Err n)) (Ok None))) (Ok (Some m)) → ⊥
     go true y z h = let z : ◌≡◌ {A = ℕ} 0 1 = cc in omega arith
     go false true true h = let z : ◌≡◌ {A = ℕ} 0 1 = cc in omega arith
     go false true false h = let z : ◌≡◌ {A = ℕ} 0 1 = cc in omega arith
     go false false z h = let z : ◌≡◌ {A = ℕ} 0 1 = cc in omega arith
-by_took (Read a k) own i remote s m bs e h = go (eqb (bus_address i) own) (eqb remote 0 && among (byte 1 s) sent_only) refl refl h
+by_took (Ok (a, k)) own i remote s m bs e h = go (eqb (bus_address i) own) (eqb remote 0 && among (byte 1 s) sent_only) refl refl h
   where
-    go : (y z : Bool) → eqb (bus_address i) own ≡ y → eqb remote 0 && among (byte 1 s) sent_only ≡ z → cond y (cond z (Refuses not_listed) (Takes k)) Silent ≡ Takes m → Took own i remote s m
+    go : (y z : Bool) → eqb (bus_address i) own ≡ y → eqb remote 0 && among (byte 1 s) sent_only ≡ z → ◌≡◌ {A = Verdict} (cond y (cond z (Err not_listed) (Ok (Some k))) (Ok None)) (Ok (Some m)) → Took own i remote s m
     go false z p q h = absurd (let z : ◌≡◌ {A = ℕ} 0 1 = cc in omega arith)
     go true true p q h = absurd (let z : ◌≡◌ {A = ℕ} 0 1 = cc in omega arith)
     go true false p q h =
         let f : k ≡ m = cc in
-        let d : reading vmb8ir i remote s ≡ Read a m = rw (← f) e in
+        let d : reading vmb8ir i remote s ≡ Ok (a, m) = rw (← f) e in
         record { here = p; address = a; reads = d; good = reading_good i remote s a m bs q d }
 
-pub took_it : (own i remote : ℕ) (s : List ℕ) (m : Message) → AllBytes s → judged own i remote s ≡ Takes m → Took own i remote s m
+pub took_it : (own i remote : ℕ) (s : List ℕ) (m : Message) → AllBytes s → judged own i remote s ≡ Ok (Some m) → Took own i remote s m
 unfolding judged
 took_it own i remote s m bs h = by_took (reading vmb8ir i remote s) own i remote s m bs refl h
 
 -- the bench is silent only at another address
-by_silent : (r : Reading) (own i remote : ℕ) (s : List ℕ) → judged_if r (eqb (bus_address i) own) (eqb remote 0 && among (byte 1 s) sent_only) ≡ Silent → eqb (bus_address i) own ≡ false
+by_silent : (r : Reading) (own i remote : ℕ) (s : List ℕ) → judged_if r (eqb (bus_address i) own) (eqb remote 0 && among (byte 1 s) sent_only) ≡ Ok None → eqb (bus_address i) own ≡ false
 unfolding judged_if
-by_silent (Refused n) own i remote s h = go (among n first_refusals) (eqb (bus_address i) own) (eqb remote 0 && among (byte 1 s) sent_only) h
+by_silent (Err n) own i remote s h = go (among n first_refusals) (eqb (bus_address i) own) (eqb remote 0 && among (byte 1 s) sent_only) h
   where
-    go : (x y z : Bool) → cond x (Refuses n) (cond y (cond z (Refuses not_listed) (Refuses n)) Silent) ≡ Silent → y ≡ false
+    go : (x y z : Bool) → ◌≡◌ {A = Verdict} (cond x (Err n) (cond y (cond z (Err not_listed) (Err n)) (Ok None))) (Ok None) → y ≡ false
     go true y z h = absurd (let z : ◌≡◌ {A = ℕ} 0 1 = cc in omega arith)
     go false true true h = absurd (let z : ◌≡◌ {A = ℕ} 0 1 = cc in omega arith)
     go false true false h = absurd (let z : ◌≡◌ {A = ℕ} 0 1 = cc in omega arith)
     go false false z h = refl
-by_silent (Read a k) own i remote s h = go (eqb (bus_address i) own) (eqb remote 0 && among (byte 1 s) sent_only) h
+by_silent (Ok (a, k)) own i remote s h = go (eqb (bus_address i) own) (eqb remote 0 && among (byte 1 s) sent_only) h
   where
-    go : (y z : Bool) → cond y (cond z (Refuses not_listed) (Takes k)) Silent ≡ Silent → y ≡ false
+    go : (y z : Bool) → ◌≡◌ {A = Verdict} (cond y (cond z (Err not_listed) (Ok (Some k))) (Ok None)) (Ok None) → y ≡ false
     go false z h = refl
     go true true h = absurd (let z : ◌≡◌ {A = ℕ} 0 1 = cc in omega arith)
     go true false h = absurd (let z : ◌≡◌ {A = ℕ} 0 1 = cc in omega arith)
 
-pub silent_elsewhere : (own i remote : ℕ) (s : List ℕ) → judged own i remote s ≡ Silent → eqb (bus_address i) own ≡ false
+pub silent_elsewhere : (own i remote : ℕ) (s : List ℕ) → judged own i remote s ≡ Ok None → eqb (bus_address i) own ≡ false
 unfolding judged
 silent_elsewhere own i remote s h = by_silent (reading vmb8ir i remote s) own i remote s h

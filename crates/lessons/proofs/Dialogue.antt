@@ -1,4 +1,5 @@
 -- What a picture hears of calls on a bench, as runs; after each call what it knows agrees with the bench. Assumes nothing.
+use Rattle.std.specs.Prelude.{Ok, Err, Some, None}
 use Prim.Native.Nat.{ℕ, ◌*◌, ◌≤◌, ◌<◌}
 use mathlib.Core.Path.{◌≡◌, refl, sym, subst, ◌∙◌}
 use mathlib.Core.Bool.{Bool, true, false, cond}
@@ -15,7 +16,6 @@ use Rattle.frame.specs.declared.messages.Command.{Command}
 use Rattle.frame.specs.declared.messages.Command.TheVariants.{TypeLong, TypeShort, Buttons, CellTold, BlockTold, CellAsked, BlockAsked, DumpAsked, CellSet, BlockSet, Errors, ErrorsAsked, NameOne, NameTwo, NameThree, NameAsked, StatusAsked, InputStatus, LedsAll, Leds, BlindStatus, BlindStop, BlindUp, BlindDown}
 use Rattle.frame.specs.declared.messages.Message.{Message}
 use Rattle.frame.specs.declared.messages.Message.TheVariants.{TypeRequest, Tells}
-use Rattle.frame.specs.declared.messages.Reading.TheVariants.{Read}
 use Rattle.judging.specs.Reading.{reading}
 use Rattle.places.specs.Runs.{Run, no_run, names, meaning_of, meant, read_as}
 use Rattle.history.specs.Standing.{Frame, address, sense, meaning, Known}
@@ -23,11 +23,8 @@ use Rattle.replies.specs.Bench.{bench_size, own_address}
 use Rattle.bench.specs.Deeds.{store, done}
 use Rattle.replies.specs.Replies.{replies}
 use Rattle.bench.specs.Sending.{reply_bytes}
-use Rattle.verdicts.specs.Verdicts.{judged}
+use Rattle.verdicts.specs.Verdicts.{judged, Verdict}
 use Rattle.taking.specs.Taking.{Outcome, kept, taken_with, given, outcome_of, taking}
-use Rattle.verdicts.specs.declared.verdicts.Verdict.{Verdict}
-use Rattle.verdicts.specs.declared.verdicts.Verdict.TheVariants.{Takes, Silent, Refuses}
-use Rattle.taking.specs.declared.taking.Taken.TheVariants as taken
 use Rattle.lessons.specs.Hearing.{Call, called, after, frame_in, heard_of, on_top, heard_after}
 use Rattle.lessons.proofs.Agree.{Agree, hears, hears-own}
 use Rattle.lessons.proofs.Doing.{Sound, run_of, received, nothing_kept_lem, no}
@@ -75,7 +72,7 @@ unfolding meant sense
 good_names TypeRequest g = refl
 good_names (Tells m) g = heard_names m g.0
 
-means : (f : Frame) (y : Address) (m : Message) → reading vmb8ir f.identifier f.remote f.bytes ≡ Read y m → sense (some vmb8ir) (meant vmb8ir m) ≡ names (run_by m)
+means : (f : Frame) (y : Address) (m : Message) → reading vmb8ir f.identifier f.remote f.bytes ≡ Ok (y, m) → sense (some vmb8ir) (meant vmb8ir m) ≡ names (run_by m)
     → meaning (some vmb8ir) f ≡ names (run_by m)
 unfolding meaning read_as
 means f y m e h = rw e h
@@ -133,11 +130,11 @@ module _ (a : ℕ) (small : a < 256) (first : Run) where
     along : Along a first o.bench (on_top (heard_of a f o) fs) runs
 
   module _ (f : Frame) (bytes : AllBytes f.bytes) (buffer : List ℕ) (b : List ℕ) (fs : List Frame) (rs : List Run) (l : Along a first b fs rs) where
-    refused : (n : ℕ) → Next f fs (kept (taken.Refused n) b buffer)
+    refused : (n : ℕ) → Next f fs (kept (Err n) b buffer)
     unfolding heard_of on_top
     refused n = record { runs = rs; along = l }
 
-    elsewhere : eqb (address f) a ≡ false → Next f fs (kept (taken.Replies 0) b buffer)
+    elsewhere : eqb (address f) a ≡ false → Next f fs (kept (Ok 0) b buffer)
     unfolding heard_of on_top
     elsewhere e = record { runs = rs; along = rw e l }
 
@@ -161,27 +158,27 @@ module _ (a : ℕ) (small : a < 256) (first : Run) where
     given-next m t = go (leb (12 * length (replies (done m b) m)) (length buffer)) refl
       where
         go : (c : Bool) → leb (12 * length (replies (done m b) m)) (length buffer) ≡ c
-            → Next f fs (cond c (taken_with (done m b) (replies (done m b) m) buffer) (kept (taken.Refused too_short) b buffer))
+            → Next f fs (cond c (taken_with (done m b) (replies (done m b) m) buffer) (kept (Err too_short) b buffer))
         go true e = record { runs = runs_on_top (runs_of (replies (done m b) m)) (run_by m ∷ rs); along = taken_along m t (leb-true (12 * length (replies (done m b) m)) (length buffer) e) }
         go false e = refused too_short
 
     judged-next : (v : Verdict) → judged a f.identifier f.remote f.bytes ≡ v → Next f fs (outcome_of v b buffer)
-    judged-next (Takes m) e = given-next m (took_it a f.identifier f.remote f.bytes m bytes e)
-    judged-next Silent e = elsewhere (silent_elsewhere a f.identifier f.remote f.bytes e)
-    judged-next (Refuses n) e = refused n
+    judged-next (Ok (Some m)) e = given-next m (took_it a f.identifier f.remote f.bytes m bytes e)
+    judged-next (Ok None) e = elsewhere (silent_elsewhere a f.identifier f.remote f.bytes e)
+    judged-next (Err n) e = refused n
 
     next : Next f fs (taking b f.identifier f.remote f.bytes buffer)
     unfolding taking
     next = rw (le-ltb (length b) bench_size l.sound.whole, l.own) (judged-next (judged a f.identifier f.remote f.bytes) refl)
 
     -- a message that is taken, with room for its replies
-    pub taken_is : (m : Message) → judged a f.identifier f.remote f.bytes ≡ Takes m → 12 * length (replies (done m b) m) ≤ length buffer
+    pub taken_is : (m : Message) → judged a f.identifier f.remote f.bytes ≡ Ok (Some m) → 12 * length (replies (done m b) m) ≤ length buffer
         → taking b f.identifier f.remote f.bytes buffer ≡ taken_with (done m b) (replies (done m b) m) buffer
     unfolding taking given
     taken_is m e h = rw (le-ltb (length b) bench_size l.sound.whole, l.own, e, le-leb (12 * length (replies (done m b) m)) (length buffer) h)
 
   -- a call that is taken, with room for its replies
-  pub one-taken : (c : Call) (b : List ℕ) (fs : List Frame) (rs : List Run) (m : Message) → judged a c.frame.identifier c.frame.remote c.frame.bytes ≡ Takes m
+  pub one-taken : (c : Call) (b : List ℕ) (fs : List Frame) (rs : List Run) (m : Message) → judged a c.frame.identifier c.frame.remote c.frame.bytes ≡ Ok (Some m)
       → 12 * length (replies (done m b) m) ≤ length c.buffer → Along a first b fs rs
       → Along a first (called b c).bench (on_top (heard_of a c.frame (called b c)) fs) (runs_on_top (runs_of (replies (done m b) m)) (run_by m ∷ rs))
   one-taken c b fs rs m e h l =

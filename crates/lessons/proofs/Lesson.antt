@@ -1,4 +1,5 @@
 -- Request W-214's theorem, as specs/Lesson.antt states it. Assumes nothing.
+use Rattle.std.specs.Prelude.{Ok, Some, None, Err}
 use Prim.Native.Nat.{ℕ, ◌+◌, ◌-◌, ◌*◌, ◌≤◌, ◌<◌}
 use native.Mathlib.Omega.{arith}
 use mathlib.Core.Path.{◌≡◌, refl, sym, ap, subst, ◌∙◌}
@@ -20,11 +21,10 @@ use Rattle.frame.specs.Bytes.{byte}
 use Rattle.frame.specs.declared.messages.Command.TheVariants.{DumpAsked, StatusAsked}
 use Rattle.frame.specs.declared.messages.Message.{Message}
 use Rattle.frame.specs.declared.messages.Message.TheVariants.{TypeRequest, Tells}
-use Rattle.frame.specs.declared.messages.Reading.TheVariants.{Read}
 use Rattle.judging.specs.Reading.{reading}
 use Rattle.codec.proofs.Accepted.{every_request}
 use Rattle.codec.proofs.RoundTrip.{written_then_read}
-use Rattle.shape.specs.declared.answers.Answer.TheVariants.{Value, NotHeard, Refused}
+use Rattle.shape.specs.Answers.{Answer}
 use Rattle.places.specs.Places.{led_place, cell_place, first_character, character_place}
 use Rattle.shape.specs.Limits.{bus_address}
 use Rattle.places.specs.Runs.{Run, no_run, names, enters, led_by, meaning_of, meant, read_as}
@@ -39,11 +39,9 @@ use Rattle.replies.specs.Bench.{own, own_address, leds}
 use Rattle.replies.specs.Replies.{blocks, dump, status, type_told, replies}
 use Rattle.bench.specs.Deeds.{store, done}
 use Rattle.frame.specs.declared.messages.Glow.TheVariants.{On, Slow, Fast, VeryFast}
-use Rattle.replies.specs.Bench as bench
 use Rattle.bench.specs.Sending.{reply_bytes, all_bytes}
 use Rattle.verdicts.specs.Verdicts.{sent_only, judged_if, judged}
 use Rattle.taking.specs.Taking.{taken_with, taking}
-use Rattle.verdicts.specs.declared.verdicts.Verdict.TheVariants.{Takes}
 use Rattle.bench.proofs.Storing.{dump-length}
 use Rattle.lessons.specs.Hearing.{Call, called, after, frame_in, frames_in, heard_after, frames_at}
 use Rattle.lessons.specs.Lesson.{remote_to, command_to, Start, at_start, type_frame, Listens, all_heard, Truthful, LessonShown, LessonHeard, Whole, DumpAndStatus, LessonWhole}
@@ -58,7 +56,7 @@ use Rattle.lessons.proofs.Start.{Made, made, made_sound, made_address}
 
 -- ---- the bench takes what it is asked
 takes : (a : ℕ) (f : Frame) (m : Message) → eqb (bus_address f.identifier) a ≡ true → eqb f.remote 0 && among (byte 1 f.bytes) sent_only ≡ false
-    → reading vmb8ir f.identifier f.remote f.bytes ≡ Read (at a) m → judged a f.identifier f.remote f.bytes ≡ Takes m
+    → reading vmb8ir f.identifier f.remote f.bytes ≡ Ok (at a, m) → judged a f.identifier f.remote f.bytes ≡ Ok (Some m)
 unfolding judged judged_if
 takes a f m here sent e = rw (e, here, sent)
 
@@ -66,14 +64,14 @@ module _ (a : ℕ) (small : a < 256) where
   here : eqb (bus_address (1536 + 2 * a)) a ≡ true
   here = eq-eqb (bus_address (1536 + 2 * a)) a (omega arith)
 
-  takes_request : judged a (remote_to a).identifier (remote_to a).remote (remote_to a).bytes ≡ Takes TypeRequest
+  takes_request : judged a (remote_to a).identifier (remote_to a).remote (remote_to a).bytes ≡ Ok (Some TypeRequest)
   takes_request = takes a (remote_to a) TypeRequest here refl (every_request vmb8ir (at a) refl small)
 
-  takes_dump : judged a (command_to a (0xCB ∷ [])).identifier 0 (0xCB ∷ []) ≡ Takes (Tells DumpAsked)
+  takes_dump : judged a (command_to a (0xCB ∷ [])).identifier 0 (0xCB ∷ []) ≡ Ok (Some (Tells DumpAsked))
   unfolding rows_of
   takes_dump = takes a (command_to a (0xCB ∷ [])) (Tells DumpAsked) here refl (written_then_read vmb8ir (at a) (Tells DumpAsked) _ small (dump-asked a).given)
 
-  takes_status : (x : ℕ) → judged a (command_to a (0xFA ∷ x ∷ [])).identifier 0 (0xFA ∷ x ∷ []) ≡ Takes (Tells (StatusAsked x))
+  takes_status : (x : ℕ) → judged a (command_to a (0xFA ∷ x ∷ [])).identifier 0 (0xFA ∷ x ∷ []) ≡ Ok (Some (Tells (StatusAsked x)))
   unfolding rows_of
   takes_status x = takes a (command_to a (0xFA ∷ x ∷ [])) (Tells (StatusAsked x)) here refl (written_then_read vmb8ir (at a) (Tells (StatusAsked x)) _ small (status-asked a x).given)
 
@@ -161,9 +159,9 @@ module _ (s : Start) where
 
 -- ---- the questions
 value-told : (has : Bool) (k : Known) (v : ℕ) (out : List ℕ) → told_if has k out ≡ value v out → k ≡ told v
-value-told true (told w) v out e = let a : Value w ≡ Value v = ap (λ (r : Reply). r.answer) e in let q : w ≡ v = cc in ap told q
-value-told true unknown v out e = let a : NotHeard ≡ Value v = ap (λ (r : Reply). r.answer) e in absurd (let z : ◌≡◌ {A = ℕ} 0 1 = cc in omega arith)
-value-told false k v out e = let a : Refused no_such_place ≡ Value v = ap (λ (r : Reply). r.answer) e in absurd (let z : ◌≡◌ {A = ℕ} 0 1 = cc in omega arith)
+value-told true (told w) v out e = let a : ◌≡◌ {A = Answer} (Ok (Some w)) (Ok (Some v)) = ap (λ (r : Reply). r.answer) e in let q : w ≡ v = cc in ap told q
+value-told true unknown v out e = let a : ◌≡◌ {A = Answer} (Ok None) (Ok (Some v)) = ap (λ (r : Reply). r.answer) e in absurd (let z : ◌≡◌ {A = ℕ} 0 1 = cc in omega arith)
+value-told false k v out e = let a : ◌≡◌ {A = Answer} (Err no_such_place) (Ok (Some v)) = ap (λ (r : Reply). r.answer) e in absurd (let z : ◌≡◌ {A = ℕ} 0 1 = cc in omega arith)
 
 number-told : (k : Known) (v : ℕ) → number_of k ≡ v → v < 256 → k ≡ told v
 number-told unknown v e h = absurd (omega arith)
@@ -218,7 +216,7 @@ module _ (picture : List ℕ) (a : ℕ) (known : ℕ → Known) (shown : TellsAl
           leds = λ n h out. shown (led n) out ∙ rw (eight n h, told_is (led_place n) (leds n h));
           names = λ n h out room.
               ap (λ (r : Reply). r.answer) (name_is n h out room)
-              ∙ ap Value (counts_all 16 (name_in vmb8ir known n) (λ i g. subst (λ (p : ℕ). Told (known p)) (sym (name-cell n i)) (cells (16 * (n - 1) + i) (omega (arith, h.0, h.1)))));
+              ∙ ap (λ (x : ℕ). Ok (Some x)) (counts_all 16 (name_in vmb8ir known n) (λ i g. subst (λ (p : ℕ). Told (known p)) (sym (name-cell n i)) (cells (16 * (n - 1) + i) (omega (arith, h.0, h.1)))));
         }
 
 -- ---- the statements
@@ -260,11 +258,11 @@ module _ (first : Run) (b b' : List ℕ) (rs : List Run) where
   leds-told n h = row_tells first (led_place n) 2 lit _ (omega arith) (omega (arith, lit_long, h.0, h.1))
 
 module _ (s : Start) (calls : List Call) (dumping asking : Call) (asked : DumpAndStatus s.address dumping asking) where
-  dump-judged : judged (a s) dumping.frame.identifier dumping.frame.remote dumping.frame.bytes ≡ Takes (Tells DumpAsked)
+  dump-judged : judged (a s) dumping.frame.identifier dumping.frame.remote dumping.frame.bytes ≡ Ok (Some (Tells DumpAsked))
   unfolding a
   dump-judged = ap (λ (f : Frame). judged (a s) f.identifier f.remote f.bytes) asked.asks_dump ∙ takes_dump (a s) (small s)
 
-  status-judged : judged (a s) asking.frame.identifier asking.frame.remote asking.frame.bytes ≡ Takes (Tells (StatusAsked asked.channel))
+  status-judged : judged (a s) asking.frame.identifier asking.frame.remote asking.frame.bytes ≡ Ok (Some (Tells (StatusAsked asked.channel)))
   unfolding a
   status-judged = ap (λ (f : Frame). judged (a s) f.identifier f.remote f.bytes) asked.asks_status ∙ takes_status (a s) (small s) asked.channel
 

@@ -1,5 +1,6 @@
 -- The replies as frames: each is one that the writer accepts, lies in its twelve bytes of the buffer, and reads back as itself.
 -- Assumes nothing.
+use Rattle.std.specs.Prelude.{Ok, Err}
 use Prim.Native.Nat.{ℕ, zero, suc, ◌+◌, ◌*◌, ◌/◌, ◌%◌, ◌≤◌, ◌<◌}
 use native.Mathlib.Omega.{arith}
 use mathlib.Core.Path.{◌≡◌, refl, ap, ◌∙◌}
@@ -19,12 +20,10 @@ use Rattle.frame.specs.declared.messages.Location.{Location}
 use Rattle.frame.specs.declared.messages.Command.{Command}
 use Rattle.frame.specs.declared.messages.Command.TheVariants.{TypeLong, TypeShort, Buttons, CellTold, BlockTold, CellAsked, BlockAsked, DumpAsked, CellSet, BlockSet, Errors, ErrorsAsked, NameOne, NameTwo, NameThree, NameAsked, StatusAsked, InputStatus, LedsAll, Leds, BlindStatus, BlindStop, BlindUp, BlindDown}
 use Rattle.frame.specs.declared.messages.Message.TheVariants.{Tells}
-use Rattle.frame.specs.declared.messages.Reading.TheVariants.{Read}
 use Rattle.judging.specs.Reading.{reading, own_type}
 use Rattle.codec.specs.Encoding.{encode}
 use Rattle.codec.specs.Writing.{handed_refusal, type_fits, write_refusal, command_frame, written_as, command_written, writing}
 use Rattle.codec.specs.declared.writer.Frame.{Frame}
-use Rattle.codec.specs.declared.writer.Writing.TheVariants.{Written, Refused}
 use Rattle.codec.proofs.RoundTrip.{written_then_read}
 use mathlib.Core.Option.{some}
 use Rattle.places.specs.Runs.{names, meaning_of}
@@ -47,7 +46,7 @@ sent_as a m = command_frame vmb8ir (at a) (data_of (encode m))
 -- A command that the writer accepts under the type that is handed in, of low priority and of no more than eight bytes.
 
 pub record Sends (kind a : ℕ) (m : Command) : Type 0 where
-  pub given : writing kind (at a) (Tells m) ≡ Written (sent_as a m)
+  pub given : writing kind (at a) (Tells m) ≡ Ok (sent_as a m)
   pub low : (row_for vmb8ir (data_of (encode m)).1).1 ≡ 3
   pub short : length (encode m) ≤ 8
   pub heard : sense (some vmb8ir) (meaning_of vmb8ir m) ≡ names (run_of m)
@@ -59,7 +58,7 @@ sends kind a m hk own fits listed low short free heard =
     let d : Data = data_of (encode m) in
     let z : handed_refusal kind (write_refusal vmb8ir d m) ≡ 0 = rw (hk, fits, listed, free) in
     record {
-      given = rw own (unrefused_is Refused (handed_refusal kind (write_refusal vmb8ir d m)) (Written (sent_as a m)) z);
+      given = rw own (unrefused_is Err (handed_refusal kind (write_refusal vmb8ir d m)) (Ok (sent_as a m)) z);
       low = low;
       short = short;
       heard = heard;
@@ -179,7 +178,7 @@ module _ (kind a : ℕ) (m : Command) (h : a < 256) (s : Sends kind a m) (same :
   count : length (encode m) % 256 ≡ length (encode m)
   count = omega (arith, s.short)
 
-  pub reply-reads : reading kind (frame_in (reply_bytes a m)).identifier (frame_in (reply_bytes a m)).remote (frame_in (reply_bytes a m)).bytes ≡ Read (at a) (Tells m)
+  pub reply-reads : reading kind (frame_in (reply_bytes a m)).identifier (frame_in (reply_bytes a m)).remote (frame_in (reply_bytes a m)).bytes ≡ Ok (at a, Tells m)
   unfolding reply_bytes sent
   reply-reads = rw (same.given, whole, count) (written_then_read kind (at a) (Tells m) (sent_as a m) h s.given)
 

@@ -1,4 +1,6 @@
 -- A bench as `bench_new` makes it. Assumes nothing.
+use Rattle.shape.specs.Answers.{Outcome}
+use Rattle.std.specs.Prelude.{Ok, Err}
 use Prim.Native.Nat.{ℕ, suc, ◌≤◌, ◌<◌}
 use native.Mathlib.Omega.{arith}
 use mathlib.Core.Path.{◌≡◌, refl, ◌∙◌}
@@ -10,7 +12,6 @@ use lib.Seq.{sets, get_or-set_same, get_or-set_other, length-sets}
 use borrow.Author.Tests.{leb-false, ltb-false}
 use Rattle.laws.specs.Refusals.{type_not_known, bad_field, code_at, too_short}
 use Rattle.laws.proofs.Stores.{sets_front}
-use Rattle.shape.specs.declared.answers.Outcome.TheVariants.{Done, Refused}
 use Rattle.shape.specs.Limits.{addresses}
 use Rattle.shape.specs.Result.{Result}
 use Rattle.shape.specs.Result as result
@@ -25,18 +26,18 @@ pub record Made (lent : List ℕ) (address : ℕ) (cells : List ℕ) (version ye
   pub small : address < 256
   pub laid : (making lent address cells version year week).buffer ≡ sets lent 0 (new_bench address cells version year week)
 
-pub made : (lent : List ℕ) (address : ℕ) (cells : List ℕ) (version year week : ℕ) → (making lent address cells version year week).outcome ≡ Done → Made lent address cells version year week
+pub made : (lent : List ℕ) (address : ℕ) (cells : List ℕ) (version year week : ℕ) → (making lent address cells version year week).outcome ≡ Ok tt → Made lent address cells version year week
 unfolding making
 made lent address cells version year week e = go (ltb (length lent) bench_size) (ltb (length cells) named_cells) (leb addresses address) (eqb address 0) refl refl refl refl e
   where
     whole : Result
     whole = result.done (sets lent 0 (new_bench address cells version year week))
 
-    never : (n : ℕ) → Refused n ≡ Done → ⊥
+    never : (n : ℕ) → ◌≡◌ {A = Outcome} (Err n) (Ok tt) → ⊥
     never n e = let z : ◌≡◌ {A = ℕ} 0 1 = cc in omega arith
 
     go : (x y z w : Bool) → ltb (length lent) bench_size ≡ x → ltb (length cells) named_cells ≡ y → leb addresses address ≡ z → eqb address 0 ≡ w
-        → (cond x (result.refusing too_short lent) (cond y (result.refusing too_short lent) (cond z (result.refusing type_not_known lent) (cond w (result.refusing (code_at bad_field 1) lent) whole)))).outcome ≡ Done
+        → (cond x (result.refusing too_short lent) (cond y (result.refusing too_short lent) (cond z (result.refusing type_not_known lent) (cond w (result.refusing (code_at bad_field 1) lent) whole)))).outcome ≡ Ok tt
         → Made lent address cells version year week
     go true y z w p q r s e = absurd (never _ e)
     go false true z w p q r s e = absurd (never _ e)

@@ -1,11 +1,9 @@
 -- What a picture hears of a bench: each command that the bench took, as it was handed in, and then its replies, as they lie in the reply buffer. Lists of calls and
 -- of frames have the LATEST first. Assumes nothing.
-use Rattle.std.specs.Prelude.{ℕ, zero, suc, ◌+◌, ◌*◌, Bool, true, false, cond, List, [], ◌∷◌, eqb, get_or, take, drop}
+use Rattle.std.specs.Prelude.{ℕ, zero, suc, ◌+◌, ◌*◌, Bool, true, false, cond, List, [], ◌∷◌, eqb, get_or, take, drop, Ok, Err}
 use Rattle.laws.specs.Limits.{AllBytes}
 use Rattle.history.specs.Standing.{Frame, address}
-use Rattle.taking.specs.Taking.{Outcome, taking}
-use Rattle.taking.specs.declared.taking.Taken.{Taken}
-use Rattle.taking.specs.declared.taking.Taken.TheVariants.{Replies, Refused}
+use Rattle.taking.specs.Taking.{Outcome, taking, Taken}
 
 -- a call: a frame, whose data are bytes, and the reply buffer lent with it
 pub record Call : Type 0 where
@@ -31,9 +29,9 @@ frames_in (suc n) buffer = frame_in (take 12 buffer) ∷ frames_in n (drop 12 bu
 
 -- the bench took the command: it answers a number of replies, and the frame is at its address
 abbrev pub heard_if : Taken → Bool → Frame → List ℕ → List Frame
-heard_if (Refused n) here f buffer = []
-heard_if (Replies n) false f buffer = []
-heard_if (Replies n) true f buffer = f ∷ frames_in n buffer
+heard_if (Err n) here f buffer = []
+heard_if (Ok n) false f buffer = []
+heard_if (Ok n) true f buffer = f ∷ frames_in n buffer
 
 unfoldable pub heard_of : ℕ → Frame → Outcome → List Frame
 heard_of a f o = heard_if o.answer (eqb (address f) a) f o.buffer

@@ -1,9 +1,7 @@
 -- Request W-214, "show this": a picture that first lists the bench from its type frame, hears each command that the bench took and then its replies, hears
 -- nothing else at that address and takes no step back shows the bench's own value of every told cell, character and LED; it accepts every one of those
 -- frames; and after CB and FA it shows all of them. Frames at other addresses may come between. The proof is proofs/Lesson.antt.
-use Rattle.std.specs.Prelude.{ℕ, ◌+◌, ◌-◌, ◌*◌, ◌<◌, ◌≤◌, ◌≡◌, ◌⊎◌, List, [], ◌∷◌, ◌++◌, map, length, get_or, take}
-use Rattle.shape.specs.declared.answers.Answer.TheVariants.{Value}
-use Rattle.shape.specs.declared.answers.Outcome.TheVariants.{Done}
+use Rattle.std.specs.Prelude.{ℕ, ◌+◌, ◌-◌, ◌*◌, ◌<◌, ◌≤◌, ◌≡◌, ◌⊎◌, List, [], ◌∷◌, ◌++◌, map, length, get_or, take, Ok, Some}
 use Rattle.places.specs.Places.{led_place}
 use Rattle.shape.specs.Layout.{size}
 use Rattle.questions.specs.Question.{type_of, cell, led, name_row, value}
@@ -32,7 +30,7 @@ pub record Start : Type 0 where
   pub version : ℕ
   pub year : ℕ
   pub week : ℕ
-  pub made : (making lent address cells version year week).outcome ≡ Done
+  pub made : (making lent address cells version year week).outcome ≡ Ok tt
   pub first : Call
   pub asks : first.frame ≡ remote_to address
   pub room : 12 ≤ length first.buffer
@@ -75,7 +73,7 @@ LessonShown =
 unfoldable pub AllAccepted : List ℕ → ℕ → ℕ → List Frame → Type 0
 AllAccepted picture d a [] = Unit {0}
 AllAccepted picture d a (f ∷ fs) =
-    (address f ≡ a → (doing (hear f) (run_bytes picture d (map hear fs))).outcome ≡ Done) × AllAccepted picture d a fs
+    (address f ≡ a → (doing (hear f) (run_bytes picture d (map hear fs))).outcome ≡ Ok tt) × AllAccepted picture d a fs
 
 abbrev pub LessonHeard : Type 0
 LessonHeard =
@@ -86,7 +84,7 @@ LessonHeard =
 pub record Whole (picture : List ℕ) (a : ℕ) (b : List ℕ) : Type 0 where
   pub cells : (l : ℕ) → l < 256 → (out : List ℕ) → reply picture a (cell l) out ≡ value (bench.cell b l) out
   pub leds : (n : ℕ) → OneTo 8 n → (out : List ℕ) → reply picture a (led n) out ≡ value (own b (led_place n)) out
-  pub names : (n : ℕ) → OneTo 8 n → (out : List ℕ) → 16 ≤ length out → (reply picture a (name_row n) out).answer ≡ Value 16
+  pub names : (n : ℕ) → OneTo 8 n → (out : List ℕ) → 16 ≤ length out → (reply picture a (name_row n) out).answer ≡ Ok (Some 16)
 
 -- where the last two commands are CB and FA, with room for 64 replies and for one
 pub record DumpAndStatus (a : ℕ) (dump status : Call) : Type 0 where

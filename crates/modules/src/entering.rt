@@ -1,11 +1,12 @@
 // A module entered, and a module exchanged. Each looks first whether there is room for it, so that it asks nothing of its caller.
 ghost use Rattle.std.specs.Prelude.{◌≡◌, ◌<◌};
+ghost use Rattle.laws.specs.Codes.{code_in};
 ghost use Rattle.places.specs.Runs.{build_told};
 ghost use Rattle.modules.specs.Records.{listed_at, enter_number, entered_in, exchanged_in};
 
 use crate::records::new_record;
 use frame::Address;
-use laws::{NO_ROOM, TOO_SHORT};
+use laws::Refusal;
 use places::PLACES;
 use shape::{COUNT_AT, KEPT_AT, ROOM, SIZE, modules_of, put_at, slot_at};
 use steering::step_on;
@@ -20,23 +21,29 @@ fn list_at(picture: &mut [u8], slot: u8, address: Address)
     put_at(picture, COUNT_AT, slot + 1);
 }
 
-// A module entered, where there is room for one more: 13, 10, and 0 where it is.
-pub fn enter(picture: &mut [u8], address: Address, kind: u8, year: u8, week: u8) -> u16
-    ensures value { result ≡ enter_number picture.old }
+// A module entered, where there is room for one more: 13, 10.
+pub fn enter(
+    picture: &mut [u8],
+    address: Address,
+    kind: u8,
+    year: u8,
+    week: u8,
+) -> Result<(), Refusal>
+    ensures value { code_in result ≡ enter_number picture.old }
     ensures picture_after { picture.new ≡ entered_in picture.old address.0 kind (build_told year week) }
 {
     if picture.len() < SIZE {
-        return TOO_SHORT;
+        return Err(Refusal::TooShort);
     }
     let slot = modules_of(picture);
     if slot >= ROOM {
-        return NO_ROOM;
+        return Err(Refusal::NoRoom);
     }
     note(picture, DID_ENTER);
     new_record(picture, slot, address, kind, year, week);
     list_at(picture, slot, address);
     step_on(picture);
-    0
+    Ok(())
 }
 
 // Another module in a slot: a new record, and no way back.

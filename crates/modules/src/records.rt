@@ -34,10 +34,8 @@ fn lay_half(picture: &mut [u8], slot: u8, start: u32, values: &[u8], unheard: &[
     ensures { picture.new ≡ blanked picture.old (place_at slot start) 256 }
 {
     let at = place_at(slot, start);
-    let mut i: usize = 0;
-    while i < 256 {
+    for i in 0..256 {
         put_pair(picture, at + 2 * i, values[i], unheard[i]);
-        i += 1;
     }
 }
 

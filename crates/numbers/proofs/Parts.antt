@@ -15,9 +15,9 @@ use lib.Seq.{drop-append-le}
 use lib.Dec.{ltb, eqb}
 use borrow.Author.Tests.{lt-ltb, le-ltb, ne_eqb, ltb-true, ltb-false, eqb-true, eqb-false}
 use Rattle.laws.proofs.Choices.{cond_elim}
-use Rattle.groups.specs.declared.scan.Found.{Found}
-use Rattle.groups.specs.declared.scan.Found.TheVariants.{Value, Ends, Bad}
-use Rattle.groups.specs.Number.{joined, read_number}
+use Rattle.std.specs.Prelude.{Ok, Err}
+use Rattle.groups.specs.declared.scan.NumberFault.TheVariants.{Ends, Bad}
+use Rattle.groups.specs.Number.{Found, joined, read_number}
 use Rattle.groups.proofs.Reading.{different, groups_at, Within, number-within}
 
 -- ---- a first part
@@ -26,26 +26,26 @@ cond_stays : {A : Type 0} (none : A) (t : Bool) (a b b' : A) → (cond t a b ≡
 cond_stays none true a b b' f g = refl
 cond_stays none false a b b' f g = g f
 
-number_settles : (left most at : ℕ) (bs t : List ℕ) → (read_number left most at bs ≡ Ends → ⊥) → read_number left most at (bs ++ t) ≡ read_number left most at bs
+number_settles : (left most at : ℕ) (bs t : List ℕ) → (read_number left most at bs ≡ Err Ends → ⊥) → read_number left most at (bs ++ t) ≡ read_number left most at bs
 unfolding read_number
 number_settles left most at [] t f = absurd (f refl)
 number_settles zero most at (b ∷ bs) t f = refl
 number_settles (suc left) most at (b ∷ bs) t f =
     let m : ℕ = (most - (b - 128)) / 128 in
-    cond_stays Ends (ltb most b) (Bad at) _ _ f
-    (λ f₁. cond_stays Ends (ltb b 128) (Value b 1) _ _ f₁
-    (λ f₂. cond_stays Ends (eqb left 0) (Bad at) _ _ f₂
+    cond_stays (Err Ends) (ltb most b) (Err (Bad at)) _ _ f
+    (λ f₁. cond_stays (Err Ends) (ltb b 128) (Ok (b, 1)) _ _ f₁
+    (λ f₂. cond_stays (Err Ends) (eqb left 0) (Err (Bad at)) _ _ f₂
     (λ f₃. ap (joined at (b - 128)) (number_settles left m (at + 1) bs t (λ e. f₃ (ap (joined at (b - 128)) e))))))
 
-pub number_stays : (s t : List ℕ) (left most at : ℕ) (r : Found) → at ≤ length s → groups_at s left most at ≡ r → (r ≡ Ends → ⊥) → groups_at (s ++ t) left most at ≡ r
+pub number_stays : (s t : List ℕ) (left most at : ℕ) (r : Found) → at ≤ length s → groups_at s left most at ≡ r → (r ≡ Err Ends → ⊥) → groups_at (s ++ t) left most at ≡ r
 number_stays s t left most at r inside e some =
     ap (read_number left most at) (drop-append-le at s t inside) ∙ number_settles left most at (drop at s) t (λ n. some (sym e ∙ n)) ∙ e
 
 -- ---- further on
 abbrev pub moved : ℕ → Found → Found
-moved k (Value v groups) = Value v groups
-moved k Ends = Ends
-moved k (Bad p) = Bad (k + p)
+moved k (Ok (v, groups)) = Ok (v, groups)
+moved k (Err Ends) = Err Ends
+moved k (Err (Bad p)) = Err (Bad (k + p))
 
 -- a choice, further on
 pub cond_moves : {A B : Type 0} (move : A → B) (t : Bool) (a b : A) (a' b' : B) → a' ≡ move a → b' ≡ move b → cond t a' b' ≡ move (cond t a b)
@@ -53,9 +53,9 @@ cond_moves move true a b a' b' f g = f
 cond_moves move false a b a' b' f g = g
 
 joined_moves : (k at low : ℕ) (r : Found) → joined (k + at) low (moved k r) ≡ moved k (joined at low r)
-joined_moves k at low Ends = refl
-joined_moves k at low (Bad p) = refl
-joined_moves k at low (Value v groups) = cond_moves (moved k) (eqb v 0) (Bad (at + 1)) (Value (low + 128 * v) (groups + 1)) _ _ (ap Bad (omega arith)) refl
+joined_moves k at low (Err Ends) = refl
+joined_moves k at low (Err (Bad p)) = refl
+joined_moves k at low (Ok (v, groups)) = cond_moves (moved k) (eqb v 0) (Err (Bad (at + 1))) (Ok (low + 128 * v, groups + 1)) _ _ (ap (λ (p : ℕ). Err (Bad p)) (omega arith)) refl
 
 pub number_moves : (left most k at : ℕ) (bs : List ℕ) → read_number left most (k + at) bs ≡ moved k (read_number left most at bs)
 unfolding read_number
@@ -65,36 +65,36 @@ number_moves (suc left) most k at (b ∷ bs) =
     let low : ℕ = b - 128 in
     let m : ℕ = (most - low) / 128 in
     let on : k + at + 1 ≡ k + (at + 1) = omega arith in
-    cond_moves (moved k) (ltb most b) (Bad at) _ _ _ refl
-    (cond_moves (moved k) (ltb b 128) (Value b 1) _ _ _ refl
-    (cond_moves (moved k) (eqb left 0) (Bad at) _ _ _ refl
+    cond_moves (moved k) (ltb most b) (Err (Bad at)) _ _ _ refl
+    (cond_moves (moved k) (ltb b 128) (Ok (b, 1)) _ _ _ refl
+    (cond_moves (moved k) (eqb left 0) (Err (Bad at)) _ _ _ refl
     (ap (λ (n : ℕ). joined (k + at) low (read_number left m n bs)) on ∙ ap (joined (k + at) low) (number_moves left m k (at + 1) bs) ∙ joined_moves k at low (read_number left m (at + 1) bs))))
 
 -- ---- cut off
 -- a number at `at`, where only the bytes before the offset `end` are read
 abbrev pub cut_number : ℕ → ℕ → Found → Found
-cut_number at end (Value v groups) = cond (ltb end (at + groups)) Ends (Value v groups)
-cut_number at end Ends = Ends
-cut_number at end (Bad p) = cond (ltb end (p + 1)) Ends (Bad p)
+cut_number at end (Ok (v, groups)) = cond (ltb end (at + groups)) (Err Ends) (Ok (v, groups))
+cut_number at end (Err Ends) = Err Ends
+cut_number at end (Err (Bad p)) = cond (ltb end (p + 1)) (Err Ends) (Err (Bad p))
 
 -- what is read from the end on is cut off
-cut_whole : (left most at k end : ℕ) (r : Found) → Within left most at k r → end ≤ at → cut_number at end r ≡ Ends
-cut_whole left most at k end (Value v groups) w h = rw (lt-ltb end (at + groups) (omega (arith, w.some)))
-cut_whole left most at k end Ends w h = refl
-cut_whole left most at k end (Bad p) w h = rw (lt-ltb end (p + 1) (omega arith))
+cut_whole : (left most at k end : ℕ) (r : Found) → Within left most at k r → end ≤ at → cut_number at end r ≡ Err Ends
+cut_whole left most at k end (Ok (v, groups)) w h = rw (lt-ltb end (at + groups) (omega (arith, w.some)))
+cut_whole left most at k end (Err Ends) w h = refl
+cut_whole left most at k end (Err (Bad p)) w h = rw (lt-ltb end (p + 1) (omega arith))
 
 joined_cut : (left most at k low end : ℕ) (r : Found) → Within left most (at + 1) k r → joined at low (cut_number (at + 1) end r) ≡ cut_number at end (joined at low r)
-joined_cut left most at k low end Ends w = refl
-joined_cut left most at k low end (Bad p) w = sym (cond_moves (joined at low) (ltb end (p + 1)) Ends (Bad p) _ _ refl refl)
-joined_cut left most at k low end (Value v groups) w =
-    sym (cond_moves (joined at low) (ltb end (at + 1 + groups)) Ends (Value v groups) _ _ refl refl) ∙ go (eqb v 0) refl
+joined_cut left most at k low end (Err Ends) w = refl
+joined_cut left most at k low end (Err (Bad p)) w = sym (cond_moves (joined at low) (ltb end (p + 1)) (Err Ends) (Err (Bad p)) _ _ refl refl)
+joined_cut left most at k low end (Ok (v, groups)) w =
+    sym (cond_moves (joined at low) (ltb end (at + 1 + groups)) (Err Ends) (Ok (v, groups)) _ _ refl refl) ∙ go (eqb v 0) refl
   where
     go : (t : Bool) → eqb v 0 ≡ t
-        → cond (ltb end (at + 1 + groups)) Ends (cond t (Bad (at + 1)) (Value (low + 128 * v) (groups + 1))) ≡ cut_number at end (cond t (Bad (at + 1)) (Value (low + 128 * v) (groups + 1)))
-    go true e = ap (λ (n : ℕ). cond (ltb end (at + 1 + n)) Ends (Bad (at + 1))) (w.zero_short (eqb-true v 0 e))
+        → cond (ltb end (at + 1 + groups)) (Err Ends) (cond t (Err (Bad (at + 1))) (Ok (low + 128 * v, groups + 1))) ≡ cut_number at end (cond t (Err (Bad (at + 1))) (Ok (low + 128 * v, groups + 1)))
+    go true e = ap (λ (n : ℕ). cond (ltb end (at + 1 + n)) (Err Ends) (Err (Bad (at + 1)))) (w.zero_short (eqb-true v 0 e))
     go false e =
         let on : at + 1 + groups ≡ at + (groups + 1) = omega arith in
-        ap (λ (n : ℕ). cond (ltb end n) Ends (Value (low + 128 * v) (groups + 1))) on
+        ap (λ (n : ℕ). cond (ltb end n) (Err Ends) (Ok (low + 128 * v, groups + 1))) on
 
 number_cut : (left most at : ℕ) (bs t : List ℕ) → read_number left most at bs ≡ cut_number at (at + length bs) (read_number left most at (bs ++ t))
 unfolding read_number
@@ -106,9 +106,9 @@ number_cut (suc left) most at (b ∷ bs) t =
     let end : ℕ = at + suc (length bs) in
     let on : at + 1 + length bs ≡ end = omega arith in
     let here : ltb end (at + 1) ≡ false = le-ltb end (at + 1) (omega arith) in
-    cond_moves (cut_number at end) (ltb most b) (Bad at) _ _ _ (rw here)
-    (cond_moves (cut_number at end) (ltb b 128) (Value b 1) _ _ _ (rw here)
-    (cond_moves (cut_number at end) (eqb left 0) (Bad at) _ _ _ (rw here)
+    cond_moves (cut_number at end) (ltb most b) (Err (Bad at)) _ _ _ (rw here)
+    (cond_moves (cut_number at end) (ltb b 128) (Ok (b, 1)) _ _ _ (rw here)
+    (cond_moves (cut_number at end) (eqb left 0) (Err (Bad at)) _ _ _ (rw here)
     (ap (joined at low) (number_cut left m (at + 1) bs t ∙ ap (λ (n : ℕ). cut_number (at + 1) n (read_number left m (at + 1) (bs ++ t))) on)
     ∙ joined_cut left m at (length (bs ++ t)) low end (read_number left m (at + 1) (bs ++ t)) (number-within left m (at + 1) (bs ++ t)))))
 
@@ -120,14 +120,14 @@ number_at_cut s t left most at h =
 
 -- what the first byte of a number shows: not more than that a group follows
 abbrev pub Past : ℕ → Found → Type 0
-Past at (Value v groups) = Unit
-Past at Ends = Unit
-Past at (Bad p) = at < p
+Past at (Ok (v, groups)) = Unit
+Past at (Err Ends) = Unit
+Past at (Err (Bad p)) = at < p
 
 joined_past : (left most at k low : ℕ) (r : Found) → Within left most (at + 1) k r → Past at (joined at low r)
-joined_past left most at k low Ends w = tt
-joined_past left most at k low (Bad p) w = omega arith
-joined_past left most at k low (Value v groups) w = cond_elim (Past at) (eqb v 0) _ _ (λ _. omega arith) (λ _. tt)
+joined_past left most at k low (Err Ends) w = tt
+joined_past left most at k low (Err (Bad p)) w = omega arith
+joined_past left most at k low (Ok (v, groups)) w = cond_elim (Past at) (eqb v 0) _ _ (λ _. omega arith) (λ _. tt)
 
 pub number_past : (left most at b : ℕ) (bs : List ℕ) → b ≤ most → Past at (read_number (suc (suc left)) most at (b ∷ bs))
 unfolding read_number
@@ -141,26 +141,26 @@ number_past left most at b bs h =
 -- ---- mended
 -- a number that is not 0, and has so many groups
 abbrev pub Ended : ℕ → Found → Type 0
-Ended n (Value v groups) = (0 < v) × (groups ≡ n)
-Ended n Ends = ⊥
-Ended n (Bad p) = ⊥
+Ended n (Ok (v, groups)) = (0 < v) × (groups ≡ n)
+Ended n (Err Ends) = ⊥
+Ended n (Err (Bad p)) = ⊥
 
 -- a choice that is `none` is the second, and where that is mended the choice is
 cond_mends : {A : Type 0} (Q : A → Type 0) (none : A) (t : Bool) (a b b' : A) → (a ≡ none → ⊥) → cond t a b ≡ none → (t ≡ false → b ≡ none → Q b') → Q (cond t a b')
 cond_mends Q none true a b b' some e f = absurd (some e)
 cond_mends Q none false a b b' some e f = f refl e
 
-joined_mends : (at low n : ℕ) (r r' : Found) → joined at low r ≡ Ends → (r ≡ Ends → Ended n r') → Ended (suc n) (joined at low r')
-joined_mends at low n (Bad p) r' e f = absurd (different cc)
-joined_mends at low n (Value v groups) r' e f = absurd (cond_elim (λ (x : Found). x ≡ Ends → ⊥) (eqb v 0) _ _ (λ _ q. different cc) (λ _ q. different cc) e)
-joined_mends at low n Ends r' e f = by r' (f refl)
+joined_mends : (at low n : ℕ) (r r' : Found) → joined at low r ≡ Err Ends → (r ≡ Err Ends → Ended n r') → Ended (suc n) (joined at low r')
+joined_mends at low n (Err (Bad p)) r' e f = absurd (different cc)
+joined_mends at low n (Ok (v, groups)) r' e f = absurd (cond_elim (λ (x : Found). x ≡ Err Ends → ⊥) (eqb v 0) _ _ (λ _ q. different cc) (λ _ q. different cc) e)
+joined_mends at low n (Err Ends) r' e f = by r' (f refl)
   where
     by : (r : Found) → Ended n r → Ended (suc n) (joined at low r)
-    by Ends h = h
-    by (Bad p) h = absurd h
-    by (Value v groups) h = rw (ne_eqb v 0 (λ z. omega (arith, h.0))) (omega (arith, h.0), omega (arith, h.1))
+    by (Err Ends) h = h
+    by (Err (Bad p)) h = absurd h
+    by (Ok (v, groups)) h = rw (ne_eqb v 0 (λ z. omega (arith, h.0))) (omega (arith, h.0), omega (arith, h.1))
 
-pub number_mends : (left most at : ℕ) (bs t : List ℕ) → 0 < left → 0 < most → read_number left most at bs ≡ Ends → Ended (suc (length bs)) (read_number left most at (bs ++ (1 ∷ t)))
+pub number_mends : (left most at : ℕ) (bs t : List ℕ) → 0 < left → 0 < most → read_number left most at bs ≡ Err Ends → Ended (suc (length bs)) (read_number left most at (bs ++ (1 ∷ t)))
 unfolding read_number
 number_mends zero most at bs t some large e = absurd (different (omega arith))
 number_mends (suc left) most at [] t some large e = rw (le-ltb most 1 (omega arith)) (omega arith, refl)
@@ -168,8 +168,8 @@ number_mends (suc left) most at (b ∷ bs) t some large e =
     let low : ℕ = b - 128 in
     let m : ℕ = (most - low) / 128 in
     let n : ℕ = suc (length bs) in
-    cond_mends (Ended (suc n)) Ends (ltb most b) (Bad at) _ _ (λ q. different cc) e
-    (λ fits e₁. cond_mends (Ended (suc n)) Ends (ltb b 128) (Value b 1) _ _ (λ q. different cc) e₁
-    (λ more e₂. cond_mends (Ended (suc n)) Ends (eqb left 0) (Bad at) _ _ (λ q. different cc) e₂
+    cond_mends (Ended (suc n)) (Err Ends) (ltb most b) (Err (Bad at)) _ _ (λ q. different cc) e
+    (λ fits e₁. cond_mends (Ended (suc n)) (Err Ends) (ltb b 128) (Ok (b, 1)) _ _ (λ q. different cc) e₁
+    (λ more e₂. cond_mends (Ended (suc n)) (Err Ends) (eqb left 0) (Err (Bad at)) _ _ (λ q. different cc) e₂
     (λ another e₃. joined_mends at low n (read_number left m (at + 1) bs) (read_number left m (at + 1) (bs ++ (1 ∷ t))) e₃
     (λ q. number_mends left m (at + 1) bs t (omega (arith, eqb-false left 0 another)) (omega (arith, ltb-false most b fits, ltb-false b 128 more)) q))))

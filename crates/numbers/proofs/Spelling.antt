@@ -16,9 +16,9 @@ use borrow.Author.Tests.{lt-ltb, le-ltb, ne_eqb, ltb-true, ltb-false, eqb-false}
 use Rattle.laws.specs.Limits.{AllBytes}
 use Rattle.laws.proofs.Choices.{cond_elim}
 use Rattle.laws.proofs.Testing.{not_both}
-use Rattle.groups.specs.declared.scan.Found.{Found}
-use Rattle.groups.specs.declared.scan.Found.TheVariants.{Value, Ends, Bad}
-use Rattle.groups.specs.Number.{most_groups, number_bytes, bytes_of, groups_of, joined, read_number, number_at}
+use Rattle.std.specs.Prelude.{Ok, Err}
+use Rattle.groups.specs.declared.scan.NumberFault.TheVariants.{Ends, Bad}
+use Rattle.groups.specs.Number.{Found, most_groups, number_bytes, bytes_of, groups_of, joined, read_number, number_at}
 use Rattle.numbers.specs.Statements.{is_bad, most64, NumbersReadBack, ReadIsSpelt, MoreIsAllowed}
 use Rattle.groups.proofs.Reading.{step, number-head, value_at_lem}
 use Rattle.groups.proofs.Writing.{bytes_last, bytes_more, bytes_length, holds, groups_hold, groups_rise}
@@ -34,14 +34,14 @@ more_groups (suc (suc left)) (suc more) v some h fits =
     ap (λ (l : List ℕ). cond (ltb v 128) (v ∷ []) ((v % 128 + 128) ∷ l)) (more_groups (suc left) more (v / 128) (omega arith) (omega arith) (omega arith))
 
 pub bytes_read : (left most at v : ℕ) (q : List ℕ) → v ≤ most → v < holds left → (left ≡ 0 → ⊥)
-    → read_number left most at (number_bytes left v ++ q) ≡ Value v (length (number_bytes left v))
+    → read_number left most at (number_bytes left v ++ q) ≡ Ok (v, length (number_bytes left v))
 unfolding step
 bytes_read zero most at v q hm hv some = absurd (some refl)
 bytes_read (suc left) most at v q hm hv some = go (ltb v 128) refl (bytes_read left)
   where
     go : (t : Bool) → ltb v 128 ≡ t
-        → ((m at w : ℕ) (q : List ℕ) → w ≤ m → w < holds left → (left ≡ 0 → ⊥) → read_number left m at (number_bytes left w ++ q) ≡ Value w (length (number_bytes left w)))
-        → read_number (suc left) most at (number_bytes (suc left) v ++ q) ≡ Value v (length (number_bytes (suc left) v))
+        → ((m at w : ℕ) (q : List ℕ) → w ≤ m → w < holds left → (left ≡ 0 → ⊥) → read_number left m at (number_bytes left w ++ q) ≡ Ok (w, length (number_bytes left w)))
+        → read_number (suc left) most at (number_bytes (suc left) v ++ q) ≡ Ok (v, length (number_bytes (suc left) v))
     go true e again =
         let h : v < 128 = ltb-true v 128 e in
         rw (bytes_last (suc left) v some h) (number-head left most at v q ∙ (rw (le-ltb most v hm, e)))
@@ -55,21 +55,21 @@ bytes_read (suc left) most at v q hm hv some = go (ltb v 128) refl (bytes_read l
         let value : low + 128 * (v / 128) ≡ v = omega arith in
         let count : length rest + 1 ≡ suc (length rest) = omega arith in
         let spelt : number_bytes (suc left) v ≡ b ∷ rest = bytes_more (suc left) v some h ∙ ap (λ (n : ℕ). b ∷ number_bytes n (v / 128)) (omega arith) in
-        let carried : joined at low (Value (v / 128) (length rest)) ≡ Value v (suc (length rest)) = rw (ne_eqb (v / 128) 0 (λ z. omega arith)) (λ i. Value (value i) (count i)) in
+        let carried : joined at low (Ok (v / 128, length rest)) ≡ Ok (v, suc (length rest)) = rw (ne_eqb (v / 128) 0 (λ z. omega arith)) (λ i. Ok (value i, count i)) in
         ap (λ (l : List ℕ). read_number (suc left) most at (l ++ q)) spelt
         ∙ number-head left most at b (rest ++ q)
         ∙ (rw (le-ltb most b (omega arith), le-ltb b 128 (omega arith), ne_eqb left 0 more)
         (ap (joined at low) (again m (at + 1) (v / 128) q (omega arith) (omega arith) more) ∙ carried))
-        ∙ ap (λ (l : List ℕ). Value v (length l)) (sym spelt)
+        ∙ ap (λ (l : List ℕ). Ok (v, length l)) (sym spelt)
 
 -- where a number's bytes stand at `at`, and q after them, it is read
-pub read_at : (s : List ℕ) (at v most : ℕ) (q : List ℕ) → v ≤ most → most ≤ most64 → drop at s ≡ bytes_of v ++ q → number_at s at most ≡ Value v (groups_of v)
+pub read_at : (s : List ℕ) (at v most : ℕ) (q : List ℕ) → v ≤ most → most ≤ most64 → drop at s ≡ bytes_of v ++ q → number_at s at most ≡ Ok (v, groups_of v)
 read_at s at v most q fits small here =
     let held = groups_hold most_groups most (omega arith) (omega arith) in
     let left : ℕ = groups_of most in
     let same : number_bytes left v ≡ bytes_of v = more_groups left most_groups v held.0 (bytes_length most_groups most) (omega (arith, held.1)) in
     ap (read_number left most at) (here ∙ ap (λ (l : List ℕ). l ++ q) (sym same))
-    ∙ bytes_read left most at v q fits (omega (arith, held.1)) (λ e. omega (arith, held.0)) ∙ ap (λ (l : List ℕ). Value v (length l)) same
+    ∙ bytes_read left most at v q fits (omega (arith, held.1)) (λ e. omega (arith, held.0)) ∙ ap (λ (l : List ℕ). Ok (v, length l)) same
 
 pub numbers_read_back : NumbersReadBack
 numbers_read_back before after v most fits small = read_at (before ++ (bytes_of v ++ after)) (length before) v most after fits small (drop-append_seam before (bytes_of v ++ after))
@@ -77,14 +77,14 @@ numbers_read_back before after v most fits small = read_at (before ++ (bytes_of 
 -- ---- read and written
 -- the bytes begin with those of the number that was read
 abbrev Spelt : ℕ → List ℕ → Found → Type 0
-Spelt left bs (Value v groups) = bs ≡ number_bytes left v ++ drop groups bs
-Spelt left bs Ends = Unit
-Spelt left bs (Bad p) = Unit
+Spelt left bs (Ok (v, groups)) = bs ≡ number_bytes left v ++ drop groups bs
+Spelt left bs (Err Ends) = Unit
+Spelt left bs (Err (Bad p)) = Unit
 
 joined_spelt : (left at b : ℕ) (bs : List ℕ) → 128 ≤ b → b < 256 → (r : Found) → Spelt left bs r → Spelt (suc left) (b ∷ bs) (joined at (b - 128) r)
-joined_spelt left at b bs hb lb Ends h = tt
-joined_spelt left at b bs hb lb (Bad p) h = tt
-joined_spelt left at b bs hb lb (Value v groups) h =
+joined_spelt left at b bs hb lb (Err Ends) h = tt
+joined_spelt left at b bs hb lb (Err (Bad p)) h = tt
+joined_spelt left at b bs hb lb (Ok (v, groups)) h =
     cond_elim (Spelt (suc left) (b ∷ bs)) (eqb v 0) _ _ (λ _. tt)
     (λ z.
     let nonzero : v ≡ 0 → ⊥ = eqb-false v 0 z in
@@ -113,21 +113,21 @@ pub read_is_spelt : ReadIsSpelt
 read_is_spelt s by at most small v groups e =
     let held = groups_hold most_groups most (omega arith) (omega arith) in
     let left : ℕ = groups_of most in
-    let fits = value_at_lem left most at s (Value v groups) v groups (sym e) refl in
+    let fits = value_at_lem left most at s (Ok (v, groups)) v groups (sym e) refl in
     let same : number_bytes left v ≡ bytes_of v = more_groups left most_groups v held.0 (bytes_length most_groups most) (omega (arith, held.1, fits.small)) in
     let by' : AllBytes (drop at s) = λ i. subst (λ (n : ℕ). n < 256) (sym (get_or-drop at s i 0)) (by (at + i)) in
-    let h : Spelt left (drop at s) (Value v groups) = subst (Spelt left (drop at s)) e (number_spelt left most at (drop at s) by') in
+    let h : Spelt left (drop at s) (Ok (v, groups)) = subst (Spelt left (drop at s)) e (number_spelt left most at (drop at s) by') in
     h ∙ (λ i. same i ++ drop-drop groups at s i)
 
 -- ---- less and more allowed
-unbad : (t : Bool) (p : ℕ) (r : Found) → is_bad (cond t (Bad p) r) ≡ false → (t ≡ false) × (is_bad r ≡ false)
+unbad : (t : Bool) (p : ℕ) (r : Found) → is_bad (cond t (Err (Bad p)) r) ≡ false → (t ≡ false) × (is_bad r ≡ false)
 unbad true p r e = not_both (sym e)
 unbad false p r e = (refl, e)
 
 joined_unbad : (at low : ℕ) (r : Found) → is_bad (joined at low r) ≡ false → is_bad r ≡ false
-joined_unbad at low (Value v groups) e = refl
-joined_unbad at low Ends e = refl
-joined_unbad at low (Bad p) e = e
+joined_unbad at low (Ok (v, groups)) e = refl
+joined_unbad at low (Err Ends) e = refl
+joined_unbad at low (Err (Bad p)) e = e
 
 cond_grows : (t : Bool) (x y y' : Found) → is_bad (cond t x y') ≡ false → (is_bad y' ≡ false → y ≡ y') → cond t x y ≡ cond t x y'
 cond_grows true x y y' e f = refl
@@ -143,7 +143,7 @@ number_grows (suc left) (suc more) m n at (b ∷ bs) h l e =
     let first = unbad (ltb m b) at _ e in
     let fits : b ≤ m = ltb-false m b first.0 in
     rw (le-ltb n b (omega arith), le-ltb m b fits)
-    (cond_grows (ltb b 128) (Value b 1) _ _ first.1
+    (cond_grows (ltb b 128) (Ok (b, 1)) _ _ first.1
     (λ e₂.
     let second = unbad (eqb left 0) at _ e₂ in
     let some : left ≡ 0 → ⊥ = eqb-false left 0 second.0 in

@@ -3,7 +3,6 @@
 --     stands_two_more                     two groups before the rest
 --     stands_three, -four, -five          a number of so many groups
 --     stood                               where it is allowed, it is what the reader of groups finds
---     nothing_found                       where the quick way found none
 -- Assumes nothing.
 use mathlib.Core.Path.{◌≡◌, refl, ap, ◌∙◌}
 use mathlib.Core.List.{List}
@@ -11,7 +10,7 @@ use Prim.Native.Nat.{ℕ, suc, ◌+◌, ◌-◌, ◌*◌, ◌/◌, ◌≤◌, �
 use native.Mathlib.Omega.{arith}
 use lib.ListN.{length, get_or}
 use borrow.Author.Tests.{ne_eqb}
-use Rattle.groups.specs.declared.scan.Found.TheVariants.{Value}
+use Rattle.std.specs.Prelude.{Ok}
 use Rattle.groups.specs.Number.{most_groups, groups_of, number_at}
 use Rattle.numbers.specs.Statements.{most64}
 use Rattle.groups.proofs.Reading.{groups_at, number_last, number-joined}
@@ -19,7 +18,7 @@ use Rattle.groups.proofs.Writing.{holds, groups_hold}
 
 -- whatever is allowed, if only v is, and as many groups as hold it: the number at `at` is v
 abbrev pub Stands : List ℕ → ℕ → ℕ → ℕ → Type 0
-Stands s at v groups = (left most : ℕ) → 0 < left → most < holds left → v ≤ most → Value v groups ≡ groups_at s left most at
+Stands s at v groups = (left most : ℕ) → 0 < left → most < holds left → v ≤ most → Ok (v, groups) ≡ groups_at s left most at
 
 -- a group at `at`, where there is one
 module _ (s : List ℕ) (at b : ℕ) (inside : at < length s) (byte : b ≡ get_or s at 0) where
@@ -32,7 +31,7 @@ module _ (s : List ℕ) (at b : ℕ) (inside : at < length s) (byte : b ≡ get_
       let two : left ≡ 1 → ⊥ = λ e. let one : holds left ≡ 128 = ap holds e in omega arith in
       let one_more : left ≡ suc (left - 1) = omega arith in
       let fewer : holds left ≡ 128 * holds (left - 1) = ap holds one_more in
-      (λ i. Value (value i) (count i))
+      (λ i. Ok (value i, count i))
       ∙ (rw (ne_eqb v 0 (λ e. omega arith)) at
       (number-joined left most at s b inside (λ e. omega arith) byte (omega arith) more two
       (stands (left - 1) m (omega arith) (omega arith) (omega arith) ∙ ap (groups_at s (left - 1) m) on) refl))
@@ -69,11 +68,7 @@ module _ (s : List ℕ) (at a b : ℕ) (first : a ≡ get_or s at 0) (second : b
       (stands-more s (at + 3) d (omega arith) fourth (at + 4) e 1 high 2 (omega arith) refl refl more₄ some
       (stands_last s (at + 4) e inside fifth last)))
 
-pub stood : (s : List ℕ) (at most v groups : ℕ) → most ≤ most64 → v ≤ most → Stands s at v groups → Value v groups ≡ number_at s at most
+pub stood : (s : List ℕ) (at most v groups : ℕ) → most ≤ most64 → v ≤ most → Stands s at v groups → Ok (v, groups) ≡ number_at s at most
 stood s at most v groups small fits stands =
     let held = groups_hold most_groups most (omega arith) (omega arith) in
     stands (groups_of most) most held.0 held.1 fits
-
--- no groups say that the quick way found nothing: then what it found may be said to be anything
-pub nothing_found : {A : Type 0} {n : ℕ} → n ≡ 0 → 0 < n → A
-nothing_found e some = absurd (omega arith)

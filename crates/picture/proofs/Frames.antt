@@ -1,6 +1,6 @@
 -- A frame heard, by the number that the code found.
 --     type_refused, type_fit, type_heard     a type frame at a listed address, judged as at no type
---     bad_refused                            a type that may not be handed in
+--     bad_refused, unhanded, handed_is       a type that may not be handed in, and one that may
 --     form_passed, form_refused              a frame that passes the first tests, and one that does not
 --     request_refused, request_heard         a type request
 --     newcomer_refused, newcomer_request, newcomer_fits, newcomer_heard     at an address with no module
@@ -55,17 +55,27 @@ module _ (b : List ℕ) (slot identifier remote : ℕ) (s : List ℕ) (kind : �
   pub bad_refused : among kind handed_types ≡ false → Heard bad_type b heard_at
   bad_refused h = as_refused bad_type (rw (handed_bad kind identifier remote s h)) (λ z. omega arith)
 
+  pub unhanded : {n : ℕ} → n ≡ unless (among kind handed_types) bad_type 0 → (n ≡ 0 → ⊥) → Heard n b heard_at
+  unhanded {n} e some = go (among kind handed_types) refl e
+    where
+      go : (t : Bool) → among kind handed_types ≡ t → n ≡ unless t bad_type 0 → Heard n b heard_at
+      go true h e = absurd (some e)
+      go false h e = rw e (bad_refused h)
+
+  pub handed_is : 0 ≡ unless (among kind handed_types) bad_type 0 → among kind handed_types ≡ true
+  handed_is = go (among kind handed_types)
+    where
+      go : (t : Bool) → 0 ≡ unless t bad_type 0 → t ≡ true
+      go true e = refl
+      go false e = absurd (omega arith)
+
   -- ---- the frame's own tests, a type request, and a command, whichever type is handed in
-  pub form_refused : {t : Bool} → t ≡ eqb (frame_refusal no_type identifier remote (length s)) 0 → t ≡ false
-      → (n : ℕ) → n ≡ frame_refusal no_type identifier remote (length s) → Heard (unless (among kind handed_types) bad_type n) b heard_at
-  form_refused f h n e = go (among kind handed_types) refl
+  pub form_refused : {t : Bool} → t ≡ eqb (frame_refusal no_type identifier remote (length s)) 0 → t ≡ false → among kind handed_types ≡ true
+      → (n : ℕ) → n ≡ frame_refusal no_type identifier remote (length s) → Heard n b heard_at
+  form_refused f h handed n e = as_refused n (frame_number kind identifier remote s (e ∙ handed_form kind identifier remote (length s) handed) z) z
     where
       z : n ≡ 0 → ⊥
       z q = form_failed identifier remote s f h (sym e ∙ q)
-
-      go : (t : Bool) → among kind handed_types ≡ t → Heard (unless t bad_type n) b heard_at
-      go true h = as_refused n (frame_number kind identifier remote s (e ∙ handed_form kind identifier remote (length s) h) z) z
-      go false h = bad_refused h
 
   module _ (passed : frame_refusal no_type identifier remote (length s) ≡ 0) where
     pub framed : among kind handed_types ≡ true → 0 ≡ frame_refusal kind identifier remote (length s)
@@ -93,21 +103,17 @@ module _ (b : List ℕ) (slot identifier remote : ℕ) (s : List ℕ) (kind : �
           (rw (here, frame, type_told_lem kind s fit.0 fit.1, lt-ltb slot room l), rw (here, frame) t)
 
     -- ---- a type request
-    request-is : remote ≡ 1 → (n : ℕ) → n ≡ request_refusal (priority_of identifier) → unless (among kind handed_types) bad_type n ≡ reading_number (reading kind identifier remote s)
-    request-is q n e = go (among kind handed_types) refl
-      where
-        go : (t : Bool) → among kind handed_types ≡ t → unless t bad_type n ≡ reading_number (reading kind identifier remote s)
-        go true h = request_number kind identifier remote s (framed h) refl q e
-        go false h = rw (handed_bad kind identifier remote s h)
+    module _ (h : among kind handed_types ≡ true) (q : remote ≡ 1) where
+      request_is : {n : ℕ} → n ≡ request_refusal (priority_of identifier) → n ≡ reading_number (reading kind identifier remote s)
+      request_is e = request_number kind identifier remote s (framed h) refl q e
 
-    module _ (q : remote ≡ 1) (r : ℕ) (e : r ≡ request_refusal (priority_of identifier)) (n : ℕ) (by : n ≡ unless (among kind handed_types) bad_type r) where
-      pub request_refused : (n ≡ 0 → ⊥) → Heard n b heard_at
-      request_refused z = as_refused n (by ∙ request-is q r e) z
+      pub request_refused : (n : ℕ) → n ≡ request_refusal (priority_of identifier) → (n ≡ 0 → ⊥) → Heard n b heard_at
+      request_refused n e z = as_refused n (request_is e) z
 
-      pub request_heard : n ≡ 0 → size ≤ length b → (x : List ℕ) → x ≡ passed_in b → Heard 0 x heard_at
+      pub request_heard : 0 ≡ request_refusal (priority_of identifier) → size ≤ length b → (x : List ℕ) → x ≡ passed_in b → Heard 0 x heard_at
       unfolding naming passed_in
-      request_heard z long x t =
-          let here = requested b slot identifier remote s k (by ∙ request-is q r e) z q in
+      request_heard e long x t =
+          let here = requested b slot identifier remote s k (request_is e) refl q in
           (rw here, rw here (t ∙ rw (le-ltb (length b) size long) (go (ltb slot room))))
         where
           go : (t : Bool) → same_bytes b ≡ cond (t && false) (told_bytes b slot no_run) (same_bytes b)

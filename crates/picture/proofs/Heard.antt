@@ -6,6 +6,7 @@
 --     newcomer_types     at an address with no type a command that is heard is the type frame
 --     slot-none          an address that has no module's slot has none
 -- Assumes nothing.
+use Rattle.std.specs.Prelude.{Ok}
 use Prim.Native.Nat.{ℕ, ◌<◌, ◌≤◌}
 use native.Mathlib.Omega.{arith}
 use mathlib.Core.Path.{◌≡◌, refl, sym, ◌∙◌}
@@ -20,7 +21,6 @@ use Rattle.frame.specs.Identifiers.{address_of}
 use Rattle.frame.specs.Bytes.{byte, data_of}
 use Rattle.frame.specs.Messages.{type_command}
 use Rattle.frame.specs.declared.messages.Message.TheVariants.{Tells}
-use Rattle.frame.specs.declared.messages.Reading.TheVariants.{Read}
 use Rattle.frame.proofs.Commands.{type_sized}
 use Rattle.judging.specs.Reading.{reading, reading_number}
 use Rattle.judging.proofs.Numbers.{refused_as, accepted_as}
@@ -42,7 +42,7 @@ module _ (b : List ℕ) (slot identifier remote : ℕ) (s : List ℕ) {kind n : 
   unfolding hearing_at hearing_as read_as meant
   requested z q = rw (← k, accepted_as kind identifier remote s (sym e ∙ z), eq-eqb remote 1 q)
 
-  read_told : n ≡ 0 → (remote ≡ 1 → ⊥) → reading kind identifier remote s ≡ Read (address_of identifier) (Tells (command_of s))
+  read_told : n ≡ 0 → (remote ≡ 1 → ⊥) → reading kind identifier remote s ≡ Ok (address_of identifier, Tells (command_of s))
   read_told z q = rw (accepted_as kind identifier remote s (sym e ∙ z), ne_eqb remote 1 q)
 
   pub told : n ≡ 0 → (remote ≡ 1 → ⊥) → hearing_at b slot identifier remote s ≡ hearing_as b slot (bus_address identifier) kind (meaning_of kind (command_of s))

@@ -1,7 +1,8 @@
 -- A command heard at a listed address, by the number that `hear_command` gave; and the number of a hearing, which is its whole outcome.
 --     command_heard, command-refused     the command's number is 0, and is not
---     outcome_decided                    a refusal never has the number 0
+--     outcome_is                         a refusal never has the number 0
 -- Assumes nothing.
+use Rattle.std.specs.Prelude.{Result, Ok, Err}
 use Prim.Native.Nat.{ℕ, ◌≤◌, ◌<◌}
 use native.Mathlib.Omega.{arith}
 use mathlib.Core.Path.{◌≡◌, refl, sym, ap, ◌∙◌}
@@ -10,6 +11,9 @@ use mathlib.Core.List.{List}
 use lib.Dec.{eqb, ltb}
 use lib.ListN.{length}
 use borrow.Author.Tests.{eqb-true, eqb-false, eq-eqb, ne_eqb, lt-ltb, le-ltb}
+use Rattle.laws.specs.Codes.{code_of, coded, code_in}
+use Rattle.laws.specs.declared.refusals.Refusal.{Refusal}
+use Rattle.laws.proofs.Codes.{some_code}
 use Rattle.laws.specs.Refusals.{bad_type, type_not_known, not_listed, no_room, too_short}
 use Rattle.laws.specs.Answers.{refusal_in}
 use Rattle.laws.specs.Tests.{among, unless}
@@ -24,9 +28,7 @@ use Rattle.judging.proofs.Numbers.{command-number}
 use Rattle.judging.proofs.Judged.{row_held}
 use Rattle.judging.proofs.Faults.{of_no_type, by-handed}
 use Rattle.places.specs.Runs.{Run, command_of, meaning_of}
-use Rattle.shape.specs.declared.answers.Outcome.{Outcome}
-use Rattle.shape.specs.declared.answers.Outcome.TheVariants as outcome
-use Rattle.shape.specs.Answers.{outcome_numbers}
+use Rattle.shape.specs.Answers.{outcome_numbers, Outcome}
 use Rattle.shape.specs.Limits.{room, bus_address}
 use Rattle.shape.specs.Layout.{size}
 use Rattle.shape.specs.Result.{refusing, done}
@@ -84,14 +86,14 @@ module _ (b : List ℕ) (slot identifier remote : ℕ) (s : List ℕ) (kind : �
           (r.0, same ∙ r.1)
 
 -- ---- a refusal never has the number 0
-abbrev Some : Outcome → Type 0
-Some o = (m : ℕ) → o ≡ outcome.Refused m → m ≡ 0 → ⊥
+abbrev Numbered : Outcome → Type 0
+Numbered o = (m : ℕ) → o ≡ Err m → m ≡ 0 → ⊥
 
-entry_some : (b : List ℕ) (slot a kind entered : ℕ) (r : Run) → Some (entering b slot a kind entered r).outcome
+entry_some : (b : List ℕ) (slot a kind entered : ℕ) (r : Run) → Numbered (entering b slot a kind entered r).outcome
 unfolding entering
 entry_some b slot a kind entered r = go (ltb slot room) (ltb (modules_of b) room) _ _
   where
-    go : (t u : Bool) (x y : List ℕ) → Some (cond t (done x) (cond u (done y) (refusing no_room b))).outcome
+    go : (t u : Bool) (x y : List ℕ) → Numbered (cond t (done x) (cond u (done y) (refusing no_room b))).outcome
     go true u x y = λ m e z. let y : ◌≡◌ {A = ℕ} 0 1 = cc in omega arith
     go false true x y = λ m e z. let y : ◌≡◌ {A = ℕ} 0 1 = cc in omega arith
     go false false x y = λ m e z. let y : 10 ≡ m = cc in omega arith
@@ -104,44 +106,51 @@ module _ (b : List ℕ) (slot identifier remote : ℕ) (s : List ℕ) where
   abbrev number : ℕ
   number = reading_number (reading kind_at identifier remote s)
 
-  data_some : number ≡ 0 → (remote ≡ 1 → ⊥) → Some (hearing_at b slot identifier remote s).outcome
+  data_some : number ≡ 0 → (remote ≡ 1 → ⊥) → Numbered (hearing_at b slot identifier remote s).outcome
   unfolding hearing_as
   data_some z q = go (eqb (byte 1 s) type_command) (eqb-true (byte 1 s) type_command) (eqb-false (byte 1 s) type_command)
     where
       here : hearing_at b slot identifier remote s ≡ hearing_as b slot (bus_address identifier) kind_at (meaning_of kind_at (command_of s))
       here = told b slot identifier remote s refl refl z q
 
-      go : (t : Bool) → (t ≡ true → byte 1 s ≡ type_command) → (t ≡ false → byte 1 s ≡ type_command → ⊥) → Some (hearing_at b slot identifier remote s).outcome
+      go : (t : Bool) → (t ≡ true → byte 1 s ≡ type_command) → (t ≡ false → byte 1 s ≡ type_command → ⊥) → Numbered (hearing_at b slot identifier remote s).outcome
       go true ff nf =
           let fit = type_fits_lem b slot identifier remote s refl refl z q (ff refl) in
           rw (here, type_by s refl (ff refl), type_told_lem kind_at s fit.0 fit.1) (entry_some b slot (bus_address identifier) kind_at (byte 2 s) _)
       go false ff nf = rw (here, names_run kind_at s (not_type (byte 1 s) (nf refl))) (λ m e y. let w : ◌≡◌ {A = ℕ} 0 1 = cc in omega arith)
 
-  at_some : Some (hearing_at b slot identifier remote s).outcome
+  at_some : Numbered (hearing_at b slot identifier remote s).outcome
   at_some = go (eqb number 0) (eqb remote 1) (eqb-true number 0) (eqb-false number 0) (eqb-true remote 1) (eqb-false remote 1)
     where
       go :
           (t u : Bool) → (t ≡ true → number ≡ 0) → (t ≡ false → number ≡ 0 → ⊥) → (u ≡ true → remote ≡ 1) → (u ≡ false → remote ≡ 1 → ⊥)
-          → Some (hearing_at b slot identifier remote s).outcome
+          → Numbered (hearing_at b slot identifier remote s).outcome
       go false u z n q r = rw (refused b slot identifier remote s refl refl (n refl)) (λ m e y. n refl (let w : number ≡ m = cc in w ∙ y))
       go true true z n q r = rw (requested b slot identifier remote s refl refl (z refl) (q refl)) (λ m e y. let w : ◌≡◌ {A = ℕ} 0 1 = cc in omega arith)
       go true false z n q r = data_some (z refl) (r refl)
 
-heard_some : (b : List ℕ) (identifier remote : ℕ) (s : List ℕ) → Some (hearing b identifier remote s).outcome
+heard_some : (b : List ℕ) (identifier remote : ℕ) (s : List ℕ) → Numbered (hearing b identifier remote s).outcome
 unfolding hearing
 heard_some b identifier remote s = go (short b)
   where
-    go : (t : Bool) → Some (cond t (refusing too_short b) (hearing_at b (slot_of b (bus_address identifier)) identifier remote s)).outcome
+    go : (t : Bool) → Numbered (cond t (refusing too_short b) (hearing_at b (slot_of b (bus_address identifier)) identifier remote s)).outcome
     go true = λ m e z. let y : 13 ≡ m = cc in omega arith
     go false = at_some b (slot_of b (bus_address identifier)) identifier remote s
 
 -- done, or refused for the number
-abbrev pub outcome_by : ℕ → Outcome
-outcome_by n = cond (eqb n 0) outcome.Done (outcome.Refused n)
+abbrev outcome_by : ℕ → Outcome
+outcome_by n = cond (eqb n 0) (Ok tt) (Err n)
 
-decided : (o : Outcome) → Some o → outcome_by (refusal_in (outcome_numbers o)) ≡ o
-decided outcome.Done h = refl
-decided (outcome.Refused n) h = rw (ne_eqb n 0 (h n refl))
+decided : (o : Outcome) → Numbered o → outcome_by (refusal_in (outcome_numbers o)) ≡ o
+decided (Ok tt) h = refl
+decided (Err n) h = rw (ne_eqb n 0 (h n refl))
 
-pub outcome_decided : (b : List ℕ) (identifier remote : ℕ) (s : List ℕ) {n : ℕ} → n ≡ number_of (hearing b identifier remote s) → outcome_by n ≡ (hearing b identifier remote s).outcome
+outcome_decided : (b : List ℕ) (identifier remote : ℕ) (s : List ℕ) {n : ℕ} → n ≡ number_of (hearing b identifier remote s) → outcome_by n ≡ (hearing b identifier remote s).outcome
 outcome_decided b identifier remote s e = rw e (decided (hearing b identifier remote s).outcome (heard_some b identifier remote s))
+
+pub outcome_is : (b : List ℕ) (identifier remote : ℕ) (s : List ℕ) (r : Result (Unit {0}) Refusal) → code_in r ≡ number_of (hearing b identifier remote s) → coded r ≡ (hearing b identifier remote s).outcome
+outcome_is b identifier remote s (Ok done) e = outcome_decided b identifier remote s e
+outcome_is b identifier remote s (Err refusal) e = sym (refused_by (code_of refusal) (some_code refusal)) ∙ outcome_decided b identifier remote s e
+  where
+    refused_by : (n : ℕ) → (n ≡ 0 → ⊥) → outcome_by n ≡ Err n
+    refused_by n some = rw (ne_eqb n 0 some)

@@ -1,7 +1,8 @@
-// Hearing a frame: its number, 0 where it is accepted, and what it does to the picture. Its own tests come first, then a type request and the type
+// Hearing a frame: what it is refused for, and what it does to the picture. Its own tests come first, then a type request and the type
 // frame; every other command is judged and told at one look.
-ghost use Rattle.std.specs.Prelude.{◌≡◌, true, ◌<◌, ◌≤◌, length};
-ghost use Rattle.laws.specs.Refusals.{bad_type};
+ghost use Rattle.std.specs.Prelude.{◌≡◌, true, not, eqb, ◌<◌, ◌≤◌, length};
+ghost use Rattle.laws.specs.Codes.{code_of, code_in, coded};
+ghost use Rattle.laws.specs.Refusals.{bad_type, type_not_known};
 ghost use Rattle.laws.specs.Tests.{among, unless};
 ghost use Rattle.kinds.specs.Types.{no_type, handed_types, row_for};
 ghost use Rattle.frame.specs.Bytes.{byte};
@@ -18,9 +19,9 @@ use commands::hear_command;
 use frame::{TYPE_FRAME, address_of};
 use judging::{form_refusal, is_frame, refusal_unlisted, request_refusal, untyped_refusal};
 use kinds::{NO_TYPE, handed_type};
-use laws::{BAD_TYPE, TOO_SHORT, TYPE_NOT_KNOWN, byte_at, unless, wide32};
+use laws::{Refusal, byte_at, wide32};
 use modules::{enter, exchange};
-use shape::{Outcome, ROOM, SIZE, kind_in, slot_of};
+use shape::{ROOM, SIZE, kind_in, slot_of};
 
 // A type frame that was accepted, of the module in a slot: byte 2 is the type, and the last two bytes are the build.
 fn enter_again(picture: &mut [u8], slot: u8, identifier: u32, kind: u8, data: &[u8])
@@ -40,10 +41,10 @@ fn enter_again(picture: &mut [u8], slot: u8, identifier: u32, kind: u8, data: &[
 }
 
 // The same of an address with no module: 10 where there is no room.
-fn enter_new(picture: &mut [u8], identifier: u32, data: &[u8]) -> u16
+fn enter_new(picture: &mut [u8], identifier: u32, data: &[u8]) -> Result<(), Refusal>
     requires size_in_bounds { (size ≤ length picture.old) × (2 ≤ length «data».now) }
     requires data_len { length «data».now ≡ (row_for (byte 2 «data».now) type_command).0 }
-    ensures value { result ≡ number_of (hearing_as picture.old no_slot (bus_address identifier) no_type (meaning_of no_type (type_frame «data».now))) }
+    ensures value { code_in result ≡ number_of (hearing_as picture.old no_slot (bus_address identifier) no_type (meaning_of no_type (type_frame «data».now))) }
     ensures picture_after { picture.new ≡ (hearing_as picture.old no_slot (bus_address identifier) no_type (meaning_of no_type (type_frame «data».now))).buffer }
 {
     let last = data.len() - 1;
@@ -66,25 +67,26 @@ fn hear_type(
     identifier: u32,
     remote: u32,
     data: &[u8],
-) -> u16
+) -> Result<(), Refusal>
     requires size_in_bounds { (size ≤ length picture.old) × (slot < room) × (kind ≡ kind_in picture.old slot) }
     requires handed_types_value { (among kind handed_types ≡ true) × (frame_refusal no_type identifier remote (length «data».now) ≡ 0) × (remote ≡ 1 → ⊥) × (byte 1 «data».now ≡ type_command) }
-    ensures value { result ≡ number_of (hearing_at picture.old slot identifier remote «data».now) }
+    ensures value { code_in result ≡ number_of (hearing_at picture.old slot identifier remote «data».now) }
     ensures picture_after { picture.new ≡ (hearing_at picture.old slot identifier remote «data».now).buffer }
 {
-    let n = untyped_refusal(identifier / 512, data);
-    if n != 0 {
-        return n;
-    }
+    untyped_refusal(identifier / 512, data)?;
     enter_again(picture, slot, identifier, kind, data);
-    0
+    Ok(())
 }
 
-// What a frame is refused for at a type: 4 for one that may not be handed in, before all else.
-fn by_type(kind: u8, n: u16) -> u16
-    ensures { result ≡ unless (among kind handed_types) bad_type n }
+// Whether the module's type may be handed in: 4 where it may not, before all else.
+fn handed(kind: u8) -> Result<(), Refusal>
+    ensures { code_in result ≡ unless (among kind handed_types) bad_type 0 }
 {
-    unless(handed_type(wide32(kind)), BAD_TYPE, n)
+    if handed_type(wide32(kind)) {
+        Ok(())
+    } else {
+        Err(Refusal::BadType)
+    }
 }
 
 // A type request, at an address whose slot is `slot`: a step with no effect.
@@ -95,33 +97,33 @@ fn hear_request(
     identifier: u32,
     remote: u32,
     data: &[u8],
-) -> u16
+) -> Result<(), Refusal>
     requires size_in_bounds { (size ≤ length picture.old) × (kind ≡ kind_in picture.old slot) }
     requires data_value { (frame_refusal no_type identifier remote (length «data».now) ≡ 0) × (remote ≡ 1) }
-    ensures value { result ≡ number_of (hearing_at picture.old slot identifier remote «data».now) }
+    ensures value { code_in result ≡ number_of (hearing_at picture.old slot identifier remote «data».now) }
     ensures picture_after { picture.new ≡ (hearing_at picture.old slot identifier remote «data».now).buffer }
 {
-    let n = by_type(kind, request_refusal(identifier / 512));
-    if n != 0 {
-        return n;
-    }
+    handed(kind)?;
+    request_refusal(identifier / 512)?;
     pass(picture);
-    0
+    Ok(())
 }
 
 // A frame of an address with no module: a type frame enters one, a type request is a step with no effect.
-fn hear_unlisted(picture: &mut [u8], identifier: u32, remote: u32, data: &[u8]) -> u16
+fn hear_unlisted(
+    picture: &mut [u8],
+    identifier: u32,
+    remote: u32,
+    data: &[u8],
+) -> Result<(), Refusal>
     requires { size ≤ length picture.old }
-    ensures value { result ≡ number_of (hearing_at picture.old no_slot identifier remote «data».now) }
+    ensures value { code_in result ≡ number_of (hearing_at picture.old no_slot identifier remote «data».now) }
     ensures picture_after { picture.new ≡ (hearing_at picture.old no_slot identifier remote «data».now).buffer }
 {
-    let n = refusal_unlisted(identifier, remote, data);
-    if n != 0 {
-        return n;
-    }
+    refusal_unlisted(identifier, remote, data)?;
     if remote == 1 {
         pass(picture);
-        return 0;
+        return Ok(());
     }
     enter_new(picture, identifier, data)
 }
@@ -134,16 +136,27 @@ fn hear_type_frame(
     identifier: u32,
     remote: u32,
     data: &[u8],
-) -> u16
+) -> Result<(), Refusal>
     requires size_in_bounds { (size ≤ length picture.old) × (slot < room) × (kind ≡ kind_in picture.old slot) }
     requires data_value { (frame_refusal no_type identifier remote (length «data».now) ≡ 0) × (remote ≡ 1 → ⊥) × (byte 1 «data».now ≡ type_command) }
-    ensures value { result ≡ number_of (hearing_at picture.old slot identifier remote «data».now) }
+    ensures value { code_in result ≡ number_of (hearing_at picture.old slot identifier remote «data».now) }
     ensures picture_after { picture.new ≡ (hearing_at picture.old slot identifier remote «data».now).buffer }
 {
-    if !handed_type(wide32(kind)) {
-        return BAD_TYPE;
-    }
+    handed(kind)?;
     hear_type(picture, slot, kind, identifier, remote, data)
+}
+
+// What a command is refused for at a type: 4 and 5 go by the type, before the rest.
+fn refused_at(kind: u8, refusal: Refusal) -> Refusal
+    ensures { code_of result ≡ unless (among kind handed_types) bad_type (unless (not (eqb kind no_type)) type_not_known (code_of refusal)) }
+{
+    if !handed_type(wide32(kind)) {
+        return Refusal::BadType;
+    }
+    if wide32(kind) == NO_TYPE {
+        return Refusal::TypeNotKnown;
+    }
+    refusal
 }
 
 // Any other command of the module in a slot: 4 and 5 go by its type, and the rest by its row and its fields.
@@ -154,28 +167,34 @@ fn hear_other(
     identifier: u32,
     remote: u32,
     data: &[u8],
-) -> u16
+) -> Result<(), Refusal>
     requires size_in_bounds { (size ≤ length picture.old) × (slot < room) × (kind ≡ kind_in picture.old slot) }
     requires data_value { (frame_refusal no_type identifier remote (length «data».now) ≡ 0) × (remote ≡ 1 → ⊥) × (byte 1 «data».now ≡ type_command → ⊥) }
-    ensures value { result ≡ number_of (hearing_at picture.old slot identifier remote «data».now) }
+    ensures value { code_in result ≡ number_of (hearing_at picture.old slot identifier remote «data».now) }
     ensures picture_after { picture.new ≡ (hearing_at picture.old slot identifier remote «data».now).buffer }
 {
-    let n = hear_command(picture, slot, kind, identifier / 512, data);
-    if n == 0 {
-        return 0;
+    match hear_command(picture, slot, kind, identifier / 512, data) {
+        Ok(()) => Ok(()),
+        Err(refusal) => Err(refused_at(kind, refusal)),
     }
-    by_type(kind, unless(wide32(kind) != NO_TYPE, TYPE_NOT_KNOWN, n))
 }
 
 // A frame of the module in a slot.
-fn hear_listed(picture: &mut [u8], slot: u8, identifier: u32, remote: u32, data: &[u8]) -> u16
+fn hear_listed(
+    picture: &mut [u8],
+    slot: u8,
+    identifier: u32,
+    remote: u32,
+    data: &[u8],
+) -> Result<(), Refusal>
     requires { (size ≤ length picture.old) × (slot < room) }
-    ensures value { result ≡ number_of (hearing_at picture.old slot identifier remote «data».now) }
+    ensures value { code_in result ≡ number_of (hearing_at picture.old slot identifier remote «data».now) }
     ensures picture_after { picture.new ≡ (hearing_at picture.old slot identifier remote «data».now).buffer }
 {
     let kind = kind_in(picture, slot);
     if !is_frame(identifier, remote, data.len()) {
-        return by_type(kind, form_refusal(identifier, remote, data.len()));
+        handed(kind)?;
+        return form_refusal(identifier, remote, data.len());
     }
     if remote == 1 {
         return hear_request(picture, slot, kind, identifier, remote, data);
@@ -186,31 +205,18 @@ fn hear_listed(picture: &mut [u8], slot: u8, identifier: u32, remote: u32, data:
     hear_other(picture, slot, kind, identifier, remote, data)
 }
 
-// A frame heard: the number that it is refused for, 0 where it is accepted.
-pub fn hear_number(picture: &mut [u8], identifier: u32, remote: u32, data: &[u8]) -> u16
-    ensures value { result ≡ number_of (hearing picture.old identifier remote «data».now) }
+// A frame heard: judged at the type of its address, then entered, told, or only counted as a step.
+pub fn hear(picture: &mut [u8], identifier: u32, remote: u32, data: &[u8]) -> Result<(), Refusal>
+    ensures value { coded result ≡ (hearing picture.old identifier remote «data».now).outcome }
     ensures picture_after { picture.new ≡ (hearing picture.old identifier remote «data».now).buffer }
 {
     if picture.len() < SIZE {
-        return TOO_SHORT;
+        return Err(Refusal::TooShort);
     }
     let slot = slot_of(picture, address_of(identifier));
     if slot < ROOM {
         hear_listed(picture, slot, identifier, remote, data)
     } else {
         hear_unlisted(picture, identifier, remote, data)
-    }
-}
-
-// A frame heard: judged at the type of its address, then entered, told, or only counted as a step.
-pub fn hear(picture: &mut [u8], identifier: u32, remote: u32, data: &[u8]) -> Outcome
-    ensures value { result ≡ (hearing picture.old identifier remote «data».now).outcome }
-    ensures picture_after { picture.new ≡ (hearing picture.old identifier remote «data».now).buffer }
-{
-    let n = hear_number(picture, identifier, remote, data);
-    if n == 0 {
-        Outcome::Done
-    } else {
-        Outcome::Refused(n)
     }
 }

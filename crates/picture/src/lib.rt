@@ -3,7 +3,7 @@
 
 mod hearing;
 
-pub use hearing::{hear, hear_number};
+pub use hearing::hear;
 pub use shape::SIZE;
 pub use steering::{fresh, fresh_with};
 pub use stores::step_back;

@@ -1,5 +1,6 @@
 -- The run of an accepted frame lies at places that its type has. What the reader's definitions say is taken apart here and nowhere else.
 -- Assumes nothing.
+use Rattle.std.specs.Prelude.{Ok, Err}
 use Prim.Native.Nat.{ℕ, suc, ◌+◌, ◌/◌, ◌<◌, ◌≤◌}
 use native.Mathlib.Omega.{arith}
 use mathlib.Core.Path.{◌≡◌, refl, sym, subst}
@@ -17,7 +18,7 @@ use Rattle.kinds.specs.Types.{low, long_type, Line, types, no_line, line_of, row
 use Rattle.frame.specs.Bytes.{byte, data_of, bytes_of}
 use Rattle.frame.specs.Messages.{type_command, location_in, readers, decode}
 use Rattle.fields.specs.Fields.{location_fault, channel_allowed, is_blind, fault}
-use Rattle.judging.specs.Reading.{frame_refusal, own_type, command_refusal, command_read, request_read, reading}
+use Rattle.judging.specs.Reading.{frame_refusal, own_type, command_refusal, command_read, request_read, reading, Reading}
 use Rattle.frame.specs.declared.bytes.Data.{Data}
 use Rattle.frame.specs.declared.identifiers.Address.{Address}
 use Rattle.kinds.specs.declared.types.Extent.{Extent}
@@ -26,8 +27,7 @@ use Rattle.frame.specs.declared.messages.Command.{Command}
 use Rattle.frame.specs.declared.messages.Command.TheVariants.{TypeLong, TypeShort}
 use Rattle.frame.specs.declared.messages.Message.{Message}
 use Rattle.frame.specs.declared.messages.Message.TheVariants.{TypeRequest, Tells}
-use Rattle.frame.specs.declared.messages.Reading.{Reading}
-use Rattle.frame.specs.declared.messages.Reading.TheVariants.{Read, Refused}
+use Rattle.laws.proofs.Codes.{same_pair}
 use Rattle.laws.proofs.Keys.{every}
 use Rattle.judging.proofs.Judged.{command_held}
 use Rattle.kinds.proofs.Listed.{of-line, of-listed}
@@ -37,11 +37,11 @@ use Rattle.places.specs.Fitting.{end_of, Lies, in_build, in_leds, in_blinds, in_
 use Rattle.places.proofs.Readers.{AllRead, read_as_lem}
 
 -- ---- what is known of a message that was read
-refused-read : {n : ℕ} {a : Address} {m : Message} → Refused n ≡ Read a m → ⊥
+refused-read : {n : ℕ} {a : Address} {m : Message} → ◌≡◌ {A = Reading} (Err n) (Ok (a, m)) → ⊥
 refused-read e = let z : ◌≡◌ {A = ℕ} 0 1 = cc in omega arith
 
-request_tells : {x a : Address} {m : Command} → Read x TypeRequest ≡ Read a (Tells m) → ⊥
-request_tells e = let z : ◌≡◌ {A = ℕ} 0 1 = cc in omega arith
+request_tells : {x a : Address} {m : Command} → ◌≡◌ {A = Reading} (Ok (x, TypeRequest)) (Ok (a, Tells m)) → ⊥
+request_tells e = let same = (same_pair _ _ _ _ e).1 in let z : ◌≡◌ {A = ℕ} 0 1 = cc in omega arith
 
 pub record Accepted (kind : ℕ) (d : Data) (m : Command) : Type 0 where
   pub listed : is_listed (own_type kind d) d.1 ≡ true
@@ -49,10 +49,11 @@ pub record Accepted (kind : ℕ) (d : Data) (m : Command) : Type 0 where
   pub faultless : fault (own_type kind d) (decode (bytes_of d)) ≡ 0
   pub is_decoded : decode (bytes_of d) ≡ m
 
-command_accepted : (kind p : ℕ) (x a : Address) (d : Data) (m : Command) → command_read kind p x d ≡ Read a (Tells m) → Accepted kind d m
+command_accepted : (kind p : ℕ) (x a : Address) (d : Data) (m : Command) → command_read kind p x d ≡ Ok (a, Tells m) → Accepted kind d m
 unfolding command_read
 command_accepted kind p x a d m e =
-    let u = unrefused Refused (command_refusal kind p d (decode (bytes_of d))) (Read x (Tells (decode (bytes_of d)))) (Read a (Tells m)) refused-read e in
+    let u = unrefused Err (command_refusal kind p d (decode (bytes_of d))) (Ok (x, Tells (decode (bytes_of d)))) (Ok (a, Tells m)) refused-read e in
+    let tells : Tells (decode (bytes_of d)) ≡ Tells m = (same_pair _ _ _ _ u.1).1 in
     let same : decode (bytes_of d) ≡ m = cc in
     let h = command_held kind p d (decode (bytes_of d)) u.0 in
     let own = own_type kind d in
@@ -63,17 +64,17 @@ command_accepted kind p x a d m e =
       is_decoded = same;
     }
 
-pub read_accepted : (kind identifier remote : ℕ) (bytes : List ℕ) (a : Address) (m : Command) → reading kind identifier remote bytes ≡ Read a (Tells m) → Accepted kind (data_of bytes) m
+pub read_accepted : (kind identifier remote : ℕ) (bytes : List ℕ) (a : Address) (m : Command) → reading kind identifier remote bytes ≡ Ok (a, Tells m) → Accepted kind (data_of bytes) m
 unfolding reading request_read
 read_accepted kind identifier remote bytes a m e =
-    let u = unrefused Refused (frame_refusal kind identifier remote (length bytes)) _ (Read a (Tells m)) refused-read e in
+    let u = unrefused Err (frame_refusal kind identifier remote (length bytes)) _ (Ok (a, Tells m)) refused-read e in
     go (eqb remote 1) u.1
   where
     go : (c : Bool)
-        → cond c (request_read (priority_of identifier) (address_of identifier)) (command_read kind (priority_of identifier) (address_of identifier) (data_of bytes)) ≡ Read a (Tells m)
+        → cond c (request_read (priority_of identifier) (address_of identifier)) (command_read kind (priority_of identifier) (address_of identifier) (data_of bytes)) ≡ Ok (a, Tells m)
         → Accepted kind (data_of bytes) m
     go true e =
-        let u = unrefused Refused (unless (eqb (priority_of identifier) low) wrong_priority 0) (Read (address_of identifier) TypeRequest) (Read a (Tells m)) refused-read e in
+        let u = unrefused Err (unless (eqb (priority_of identifier) low) wrong_priority 0) (Ok (address_of identifier, TypeRequest)) (Ok (a, Tells m)) refused-read e in
         absurd (request_tells u.1)
     go false e = command_accepted kind (priority_of identifier) (address_of identifier) a (data_of bytes) m e
 
@@ -210,9 +211,9 @@ unfolding read_as meant
 read-placed kind identifier remote bytes = go (reading kind identifier remote bytes) refl
   where
     go : (rd : Reading) → reading kind identifier remote bytes ≡ rd → PlacedAs kind (read_as kind rd)
-    go (Refused n) e = tt
-    go (Read a TypeRequest) e = none-placed kind
-    go (Read a (Tells m)) e = accepted_placed kind (data_of bytes) m (read_accepted kind identifier remote bytes a m e)
+    go (Err n) e = tt
+    go (Ok (a, TypeRequest)) e = none-placed kind
+    go (Ok (a, Tells m)) e = accepted_placed kind (data_of bytes) m (read_accepted kind identifier remote bytes a m e)
 
 pub runs_lie : RunsLie
 runs_lie kind identifier remote bytes = go (read_as kind (reading kind identifier remote bytes)) (read-placed kind identifier remote bytes)

@@ -1,6 +1,7 @@
 -- What a message says: one run of at most eight neighbouring places, and of each of them nothing, its value, or that a change is asked for.
 -- Assumes nothing.
-use Rattle.std.specs.Prelude.{ℕ, suc, ◌/◌, ◌%◌, ◌^◌, cond, List, [], ◌∷◌, map, eqb, replicate}
+use Rattle.judging.specs.Reading.{Reading}
+use Rattle.std.specs.Prelude.{ℕ, suc, ◌/◌, ◌%◌, ◌^◌, cond, List, [], ◌∷◌, map, eqb, replicate, Ok, Err}
 use Rattle.laws.specs.Tab.{tab}
 use Rattle.kinds.specs.Types.{name_of, blind_of, up_bit}
 use Rattle.frame.specs.Bytes.{data_of, bytes_of}
@@ -11,8 +12,6 @@ use Rattle.frame.specs.declared.messages.Command.{Command}
 use Rattle.frame.specs.declared.messages.Command.TheVariants.{TypeLong, TypeShort, Buttons, CellTold, BlockTold, CellAsked, BlockAsked, DumpAsked, CellSet, BlockSet, Errors, ErrorsAsked, NameOne, NameTwo, NameThree, NameAsked, StatusAsked, InputStatus, LedsAll, Leds, BlindStatus, BlindStop, BlindUp, BlindDown}
 use Rattle.frame.specs.declared.messages.Message.{Message}
 use Rattle.frame.specs.declared.messages.Message.TheVariants.{TypeRequest, Tells}
-use Rattle.frame.specs.declared.messages.Reading.{Reading}
-use Rattle.frame.specs.declared.messages.Reading.TheVariants.{Read, Refused}
 use Rattle.places.specs.Places.{year_place, led_place, blind_place, character_place, cell_place}
 
 -- what is said of a place
@@ -138,8 +137,8 @@ meant kind (Tells m) = meaning_of kind m
 
 -- what the reader gave
 unfoldable pub read_as : ℕ → Reading → Meaning
-read_as kind (Refused n) = refuses n
-read_as kind (Read a m) = meant kind m
+read_as kind (Err n) = refuses n
+read_as kind (Ok (a, m)) = meant kind m
 
 -- the command that the data bytes of a frame are
 abbrev pub command_of : List ℕ → Command

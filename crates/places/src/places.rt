@@ -1,17 +1,15 @@
 // The places of a module, one map for every type: build year, build week, LEDs, blinds, characters of names, cells. Where a type's names live in
 // its memory, a character and its cell are one place.
-ghost use Rattle.std.specs.Prelude.{◌≡◌, cond, ◌+◌, ◌-◌, ◌≤◌, ltb};
+ghost use Rattle.std.specs.Prelude.{◌≡◌, cond, ◌+◌, ◌-◌, ◌<◌, ◌≤◌, ltb, unwrap_or, IfSome};
 ghost use Rattle.kinds.specs.Types.{extent_of};
-ghost use Rattle.places.specs.Places.{led_asked, blind_asked, has_name, within, nowhere, first_character, character_place, cell_place};
+ghost use Rattle.places.specs.Places.{places, led_asked, blind_asked, has_name, within, nowhere, first_character, character_place, cell_place};
 
 use frame::Location;
 use kinds::{VMB1BL, VMB2BL, VMB8IR, extent_of, names_in_memory};
 use laws::{both, wide32};
 
-// How many places there are, and the number that stands for no place.
+// How many places there are.
 pub const PLACES: usize = 512;
-
-const NOWHERE: usize = PLACES;
 
 // The first place of each kind.
 pub const YEAR: u32 = 0;
@@ -93,26 +91,31 @@ pub fn has_cell(kind: u8, location: u32) -> bool
     false
 }
 
-// The place that is asked for, or nowhere, of places that are counted from 1.
-fn numbered(first: u32, n: u32, most: u32) -> usize
-    ensures { result ≡ cond (within n most) (first + (n - 1)) nowhere }
+// The place that is asked for, of places that are counted from 1.
+fn numbered(first: u32, n: u32, most: u32) -> Option<u32>
+    requires { first + most ≤ places }
+    ensures value { unwrap_or result nowhere ≡ cond (within n most) (first + (n - 1)) nowhere }
+    ensures inside { IfSome result (λ place. place < places) }
 {
     if within(n, most) {
-        first as usize + (n as usize - 1)
+        Some(first + (n - 1))
     } else {
-        NOWHERE
+        None
     }
 }
 
-pub fn led_asked(kind: u8, number: u32) -> usize
-    ensures { result ≡ led_asked kind number }
+// None where the type has no such LED, or no such blind.
+pub fn led_asked(kind: u8, number: u32) -> Option<u32>
+    ensures value { unwrap_or result nowhere ≡ led_asked kind number }
+    ensures inside { IfSome result (λ place. place < places) }
 {
     let e = extent_of(wide32(kind));
     numbered(LEDS, number, e.leds)
 }
 
-pub fn blind_asked(kind: u8, number: u32) -> usize
-    ensures { result ≡ blind_asked kind number }
+pub fn blind_asked(kind: u8, number: u32) -> Option<u32>
+    ensures value { unwrap_or result nowhere ≡ blind_asked kind number }
+    ensures inside { IfSome result (λ place. place < places) }
 {
     let e = extent_of(wide32(kind));
     numbered(BLINDS, number, e.blinds)

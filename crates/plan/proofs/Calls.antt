@@ -1,6 +1,6 @@
 -- What is shown of the calls, as specs/Statements.antt states it: the row is the module's, what is written is the plan, and C is given the same.
 -- Assumes nothing.
-use Prim.Native.Nat.{ℕ, zero, suc, ◌+◌, ◌*◌, ◌/◌, ◌%◌, ◌-◌, ◌<◌}
+use Prim.Native.Nat.{ℕ, zero, suc, ◌+◌, ◌*◌, ◌/◌, ◌%◌, ◌<◌}
 use native.Mathlib.Omega.{arith}
 use mathlib.Core.Path.{◌≡◌, refl, sym, ap, ◌∙◌}
 use mathlib.Core.Logic.{◌↔◌}
@@ -15,7 +15,7 @@ use Rattle.laws.specs.Limits.{AllBytes}
 use Rattle.laws.specs.Tab.{tab}
 use Rattle.laws.proofs.Tab.{length-tab, get_d_tab, tab_ext}
 use Rattle.kinds.specs.Types.{extent_of}
-use Rattle.shape.specs.declared.answers.Answer.TheVariants.{Value, NotHeard, Refused}
+use Rattle.std.specs.Prelude.{Some, None, Ok, Err}
 use Rattle.shape.specs.Limits.{room, not_heard}
 use Rattle.places.specs.Places.{places, cell_place, cell_asked, cell_row}
 use Rattle.shape.specs.Layout.{size, place_at}
@@ -68,13 +68,13 @@ row_is_memory b long a listed out e =
     (memory-filled b s (kind_in b s) out (e ∙ row-length b (place_at s (cell_row (kind_in b s)).start) (cell_row (kind_in b s)).count))
 
 -- a cell that the question says is not heard
-heard_or_not : (b : List ℕ) (o : ℕ) → AllBytes b → (value_at b o ≡ not_heard) ↔ (answer_at b o ≡ NotHeard)
+heard_or_not : (b : List ℕ) (o : ℕ) → AllBytes b → (value_at b o ≡ not_heard) ↔ (answer_at b o ≡ Ok None)
 heard_or_not b o bytes = (
   λ e. rw (not_heard_lem (get_or b o 0) (get_or b (o + 1) 0) (bytes o) e),
   go (eqb (value_at b o) not_heard) refl,
 )
   where
-    go : (t : Bool) → eqb (value_at b o) not_heard ≡ t → answer_at b o ≡ NotHeard → value_at b o ≡ not_heard
+    go : (t : Bool) → eqb (value_at b o) not_heard ≡ t → answer_at b o ≡ Ok None → value_at b o ≡ not_heard
     go true t e = eqb-true (value_at b o) not_heard t
     go false t e =
         let told = rw (heard (get_or b o 0) (get_or b (o + 1) 0) (eqb-false (value_at b o) not_heard t)) at e in
@@ -100,15 +100,15 @@ unknown_is_not_heard b bytes long a listed location inside out =
 
 -- ---- what is written
 -- an answer that is a value is none of the refusals
-refused_not : {A : Type 0} (n count : ℕ) → Refused n ≡ Value count → A
+refused_not : {A : Type 0} (n count : ℕ) → Err n ≡ Ok (Some count) → A
 refused_not n count e = absurd (let z : ◌≡◌ {A = ℕ} 0 1 = cc in omega arith)
 
-laid-written : (row out : List ℕ) (count : ℕ) → (laid as_entries row out).answer ≡ Value count → Written row out (laid as_entries row out).buffer count
+laid-written : (row out : List ℕ) (count : ℕ) → (laid as_entries row out).answer ≡ Ok (Some count) → Written row out (laid as_entries row out).buffer count
 unfolding laid least_reads
 laid-written row out count = go (leb (length (plan_of row)) (length out)) refl
   where
     go : (t : Bool) → leb (length (plan_of row)) (length out) ≡ t
-        → (cond t (value (length (plan_of row)) (plan_of row ++ drop (length (plan_of row)) out)) (refusing too_short out)).answer ≡ Value count
+        → (cond t (value (length (plan_of row)) (plan_of row ++ drop (length (plan_of row)) out)) (refusing too_short out)).answer ≡ Ok (Some count)
         → Written row out (cond t (value (length (plan_of row)) (plan_of row ++ drop (length (plan_of row)) out)) (refusing too_short out)).buffer count
     go true t e =
         let n : count ≡ length (plan_of row) = cc in
@@ -127,7 +127,7 @@ written_is_plan b a out count = go (short b) (ltb (slot_asked b a) room)
     row : List ℕ
     row = memory_in b (slot_asked b a)
 
-    go : (s l : Bool) → (cond s (refusing too_short out) (cond l (laid as_entries row out) (refusing type_not_known out))).answer ≡ Value count
+    go : (s l : Bool) → (cond s (refusing too_short out) (cond l (laid as_entries row out) (refusing type_not_known out))).answer ≡ Ok (Some count)
         → Written row out (cond s (refusing too_short out) (cond l (laid as_entries row out) (refusing type_not_known out))).buffer count
     go true l e = refused_not too_short count e
     go false true e = laid-written row out count e
@@ -236,12 +236,12 @@ over out r = answering r.answer out
 pub right_in_bytes_lem : RightInBytes
 right_in_bytes_lem b a starts =
     ap (λ (r : Reply). r.answer)
-    (at_module_lem b a (λ s. answering (Value (yes_no (right_in_bytes (memory_in b s) (in_bytes starts)))) (in_bytes starts)) (λ s. answering (Value (yes_no (right_plan (memory_in b s) starts))) starts) (in_bytes starts) starts
-    (over (in_bytes starts)) (λ n. refl) (λ s. ap (λ (t : Bool). answering (Value (yes_no t)) (in_bytes starts)) (right_bytes (memory_in b s) starts)))
+    (at_module_lem b a (λ s. answering (Ok (Some (yes_no (right_in_bytes (memory_in b s) (in_bytes starts))))) (in_bytes starts)) (λ s. answering (Ok (Some (yes_no (right_plan (memory_in b s) starts)))) starts) (in_bytes starts) starts
+    (over (in_bytes starts)) (λ n. refl) (λ s. ap (λ (t : Bool). answering (Ok (Some (yes_no t))) (in_bytes starts)) (right_bytes (memory_in b s) starts)))
 
 pub odd_byte_is_no_plan : OddByteIsNoPlan
 odd_byte_is_no_plan b long a listed starts byte =
     let bytes = in_bytes starts ++ (byte ∷ []) in
     let odd : length (in_bytes starts ++ (byte ∷ [])) % 2 ≡ 1 = simp length-append (omega (arith, length_bytes starts)) in
-    sym (ap (λ (r : Reply). r.answer) (listed_says b a (λ s. answering (Value (yes_no (right_in_bytes (memory_in b s) bytes))) bytes) bytes long refl listed))
-    ∙ ap (λ (t : Bool). Value (yes_no (t && right_plan (memory_in b (slot_asked b a)) (starts_in bytes)))) (ne_eqb (length bytes % 2) 0 (λ e. omega arith))
+    sym (ap (λ (r : Reply). r.answer) (listed_says b a (λ s. answering (Ok (Some (yes_no (right_in_bytes (memory_in b s) bytes)))) bytes) bytes long refl listed))
+    ∙ ap (λ (t : Bool). Ok (Some (yes_no (t && right_plan (memory_in b (slot_asked b a)) (starts_in bytes))))) (ne_eqb (length bytes % 2) 0 (λ e. omega arith))

@@ -7,14 +7,18 @@ use mathlib.Core.List.{List, ◌++◌}
 use lib.Dec.{leb}
 use lib.ListN.{length, drop}
 use borrow.Author.Tests.{lt-ltb, le-ltb, le-leb, lt-leb, leb-true, leb-false, eq-eqb, ne_eqb}
-use Rattle.laws.specs.Refusals.{type_not_known, too_short}
+use Rattle.std.specs.Prelude.{Result, Ok, Err}
+use Rattle.laws.specs.declared.refusals.Refusal.{Refusal}
+use Rattle.laws.specs.Codes.{code_of, coded}
+use Rattle.laws.specs.Refusals.{too_short}
 use Rattle.shape.specs.Limits.{room}
 use Rattle.places.specs.Places.{places, cell_row}
 use Rattle.shape.specs.Layout.{size, place_at}
 use Rattle.shape.specs.Head.{kind_in}
 use Rattle.questions.specs.Question.{Reply, value, refusing}
-use Rattle.questions.specs.Replies.{slot_asked}
+use Rattle.questions.specs.Replies.{slot_asked, module_asked}
 use Rattle.questions.specs.Statements.{in_bytes}
+use Rattle.questions.proofs.Replying.{refused_call, found_call}
 use Rattle.questions.proofs.Extents.{few-cells}
 use Rattle.questions.proofs.RowBytes.{length_bytes}
 use Rattle.reads.specs.Reads.{block}
@@ -26,19 +30,19 @@ use Rattle.reads.proofs.Judging.{wrong_count}
 use Rattle.plan.proofs.Turns.{few_reads}
 
 -- ---- a call on the module at an address
-module _ (b : List ℕ) (a : ℕ) (says : ℕ → Reply) (out : List ℕ) where
-  pub short-refused : length b < size → refusing too_short out ≡ at_module b a says out
+module _ (b : List ℕ) (a : ℕ) (says : ℕ → Reply) (out : List ℕ) {r : Result ℕ Refusal} (asked : coded r ≡ module_asked b a) where
+  pub refused_before : {e : Refusal} → r ≡ Err e → refusing (code_of e) out ≡ at_module b a says out
   unfolding at_module
-  short-refused h = rw (lt-ltb (length b) size h)
+  refused_before is = refused_call b a says out asked is
 
-  module _ {s : ℕ} (long : size ≤ length b) (d : s ≡ slot_asked b a) where
-    pub unlisted-refused : room ≤ s → refusing type_not_known out ≡ at_module b a says out
-    unfolding at_module
-    unlisted-refused h = rw (le-ltb (length b) size long, ← d, le-ltb s room h)
+  pub found_says : {s : ℕ} → r ≡ Ok s → says s ≡ at_module b a says out
+  unfolding at_module
+  found_says is = found_call b a says out asked is
 
-    pub listed_says : s < room → says s ≡ at_module b a says out
-    unfolding at_module
-    listed_says h = rw (le-ltb (length b) size long, ← d, lt-ltb s room h)
+-- a listed module
+pub listed_says : (b : List ℕ) (a : ℕ) (says : ℕ → Reply) (out : List ℕ) {s : ℕ} → size ≤ length b → s ≡ slot_asked b a → s < room → says s ≡ at_module b a says out
+unfolding at_module
+listed_says b a says out {s} long d h = rw (le-ltb (length b) size long, ← d, lt-ltb s room h)
 
 -- ---- the memory of the module in a slot
 -- it lies in the picture

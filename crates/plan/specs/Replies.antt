@@ -1,9 +1,8 @@
 -- The calls on a picture's bytes, for every list of bytes. Refusals in order: 13 for the picture, 5, 13 for the list to fill. Assumes nothing.
-use Rattle.std.specs.Prelude.{ℕ, ◌+◌, ◌*◌, ◌/◌, ◌%◌, Bool, cond, ◌&&◌, List, ◌++◌, leb, ltb, eqb, length, drop}
+use Rattle.std.specs.Prelude.{ℕ, ◌+◌, ◌*◌, ◌/◌, ◌%◌, Bool, cond, ◌&&◌, List, ◌++◌, leb, ltb, eqb, length, drop, Some, Result, Ok, Err}
 use Rattle.laws.specs.Refusals.{type_not_known, too_short}
 use Rattle.laws.specs.Tab.{tab}
-use Rattle.shape.specs.declared.answers.Answer.{Answer}
-use Rattle.shape.specs.declared.answers.Answer.TheVariants.{Value}
+use Rattle.shape.specs.Answers.{Answer}
 use Rattle.shape.specs.Limits.{room}
 use Rattle.places.specs.Places.{cell_row}
 use Rattle.shape.specs.Layout.{place_at}
@@ -45,8 +44,12 @@ plan_bytes_reply b a out = at_module b a (λ s. laid in_bytes (memory_in b s) ou
 abbrev pub yes_no : Bool → ℕ
 yes_no answer = cond answer 1 0
 
+abbrev pub judged : Result Bool ℕ → Answer
+judged (Ok answer) = Ok (Some (yes_no answer))
+judged (Err n) = Err n
+
 abbrev pub right_answer : List ℕ → ℕ → List ℕ → Answer
-right_answer b a starts = (at_module b a (λ s. answering (Value (yes_no (right_plan (memory_in b s) starts))) starts) starts).answer
+right_answer b a starts = (at_module b a (λ s. answering (Ok (Some (yes_no (right_plan (memory_in b s) starts)))) starts) starts).answer
 
 -- as bytes, two for each start, low byte first: half as many starts as bytes, and whole starts alone can be a plan
 abbrev pub starts_in : List ℕ → List ℕ
@@ -56,4 +59,4 @@ abbrev pub right_in_bytes : List ℕ → List ℕ → Bool
 right_in_bytes row bytes = eqb (length bytes % 2) 0 && right_plan row (starts_in bytes)
 
 abbrev pub right_bytes_answer : List ℕ → ℕ → List ℕ → Answer
-right_bytes_answer b a bytes = (at_module b a (λ s. answering (Value (yes_no (right_in_bytes (memory_in b s) bytes))) bytes) bytes).answer
+right_bytes_answer b a bytes = (at_module b a (λ s. answering (Ok (Some (yes_no (right_in_bytes (memory_in b s) bytes)))) bytes) bytes).answer

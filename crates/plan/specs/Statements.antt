@@ -1,8 +1,7 @@
 -- What is shown of the calls, over what crate reads shows of a row. The proofs are in proofs/.
-use Rattle.std.specs.Prelude.{ℕ, ◌+◌, ◌≤◌, ◌<◌, ◌≡◌, ◌↔◌, List, [], ◌∷◌, ◌++◌, length, take, drop}
+use Rattle.std.specs.Prelude.{ℕ, ◌≤◌, ◌<◌, ◌≡◌, ◌↔◌, List, [], ◌∷◌, ◌++◌, length, take, drop, Some, None, Ok}
 use Rattle.laws.specs.Limits.{AllBytes}
 use Rattle.kinds.specs.Types.{cells_of, last_start}
-use Rattle.shape.specs.declared.answers.Answer.TheVariants.{Value, NotHeard}
 use Rattle.shape.specs.Limits.{room}
 use Rattle.shape.specs.Layout.{size}
 use Rattle.shape.specs.Head.{kind_in}
@@ -24,7 +23,7 @@ RowIsMemory =
 abbrev pub UnknownIsNotHeard : Type 0
 UnknownIsNotHeard =
     (b : List ℕ) → AllBytes b → size ≤ length b → (a : ℕ) → slot_asked b a < room → (location : ℕ) → location < length (memory_in b (slot_asked b a))
-    → (out : List ℕ) → Unknown (memory_in b (slot_asked b a)) location ↔ ((reply b a (cell location) out).answer ≡ NotHeard)
+    → (out : List ℕ) → Unknown (memory_in b (slot_asked b a)) location ↔ ((reply b a (cell location) out).answer ≡ Ok None)
 
 -- one number for each cell of its type, and the last start is the type's
 pub record ModulesRow (b : List ℕ) (s : ℕ) : Type 0 where
@@ -44,7 +43,7 @@ pub record Written (row out after : List ℕ) (count : ℕ) : Type 0 where
 
 abbrev pub WrittenIsPlan : Type 0
 WrittenIsPlan =
-    (b : List ℕ) (a : ℕ) (out : List ℕ) (count : ℕ) → (plan_reply b a out).answer ≡ Value count
+    (b : List ℕ) (a : ℕ) (out : List ℕ) (count : ℕ) → (plan_reply b a out).answer ≡ Ok (Some count)
     → Written (memory_in b (slot_asked b a)) out (plan_reply b a out).buffer count
 
 -- C is given the same: any list, lent as bytes, is answered alike, and then holds the same; an odd byte more changes nothing and keeps its own
@@ -65,4 +64,4 @@ RightInBytes = (b : List ℕ) (a : ℕ) (starts : List ℕ) → right_bytes_answ
 abbrev pub OddByteIsNoPlan : Type 0
 OddByteIsNoPlan =
     (b : List ℕ) → size ≤ length b → (a : ℕ) → slot_asked b a < room
-    → (starts : List ℕ) (byte : ℕ) → right_bytes_answer b a (in_bytes starts ++ (byte ∷ [])) ≡ Value 0
+    → (starts : List ℕ) (byte : ℕ) → right_bytes_answer b a (in_bytes starts ++ (byte ∷ [])) ≡ Ok (Some 0)

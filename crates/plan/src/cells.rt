@@ -34,14 +34,12 @@ pub(crate) fn next_unknown(picture: &[u8], at: usize, cells: usize, from: usize)
     requires { at + 2 * cells ≤ length picture.now }
     ensures { result ≡ next_unknown from (drop from (row_at picture.now at cells)) }
 {
-    let mut cell = from;
-    while cell < cells {
+    for cell in from..cells {
         if number_at(picture, at + 2 * cell) == NOT_HEARD {
             return cell;
         }
-        cell += 1;
     }
-    cell
+    cells.max(from)
 }
 
 // Whether the three cells after the one at `at` are all told: then their high bytes are 0. One load for each is cheaper than a number of two bytes.
@@ -83,6 +81,7 @@ pub(crate) fn least(picture: &[u8], at: usize, cells: usize) -> usize
 {
     let mut count: usize = 0;
     let mut cell = next_unknown(picture, at, cells, 0);
+    // A while: each read says from which cell on the next is looked for.
     while cell < cells {
         let start = start_for(cells, cell);
         count += 1;

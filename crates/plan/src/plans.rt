@@ -1,5 +1,7 @@
 // The plan, written into a lent list.
 ghost use Rattle.std.specs.Prelude.{◌≡◌, ◌++◌, ◌+◌, ◌*◌, ◌/◌, ◌%◌, ◌<◌, ◌≤◌, leb, length, drop, set};
+ghost use Rattle.laws.specs.Codes.{coded};
+ghost use Rattle.shape.specs.Answers.{valued};
 ghost use Rattle.shape.specs.Limits.{room};
 ghost use Rattle.shape.specs.Layout.{size};
 ghost use Rattle.questions.specs.Statements.{in_bytes};
@@ -7,10 +9,10 @@ ghost use Rattle.reads.specs.Plan.{plan_of, least_reads};
 ghost use Rattle.plan.specs.Replies.{row_at, memory_in, as_entries, laid, plan_reply, plan_bytes_reply};
 
 use crate::cells::{least, memory_at, next_unknown, number_at, past_known};
-use laws::{TOO_SHORT, TYPE_NOT_KNOWN};
-use questions::{AddressAsked, cells_in, slot_asked};
+use laws::Refusal;
+use questions::{AddressAsked, cells_in, module_asked};
 use reads::{BLOCK, start_for};
-use shape::{Answer, NOT_HEARD, ROOM, SIZE};
+use shape::NOT_HEARD;
 
 // Whether a list of so many entries holds the plan. One with an entry for each block of cells always does, so that the reads need not be counted first.
 fn fits(picture: &[u8], at: usize, cells: usize, entries: usize) -> bool
@@ -31,6 +33,7 @@ fn write_entries(picture: &[u8], at: usize, cells: usize, starts: &mut [u16]) ->
 {
     let mut count: usize = 0;
     let mut cell = next_unknown(picture, at, cells, 0);
+    // A while: each read says from which cell on the next is looked for.
     while cell < cells {
         let start = start_for(cells, cell);
         starts[count] = start as u16;
@@ -58,6 +61,7 @@ fn write_bytes(picture: &[u8], at: usize, cells: usize, out: &mut [u8]) -> u16
 {
     let mut count: usize = 0;
     let mut cell: usize = 0;
+    // A while: how far a turn goes on depends on the cells.
     while cell + BLOCK <= cells {
         if number_at(picture, at + 2 * cell) == NOT_HEARD {
             put_start(out, count, cell);
@@ -75,60 +79,32 @@ fn write_bytes(picture: &[u8], at: usize, cells: usize, out: &mut [u8]) -> u16
     count as u16
 }
 
-fn plan_in(picture: &[u8], slot: u8, starts: &mut [u16]) -> Answer
-    requires { (size ≤ length picture.now) × (slot < room) }
-    ensures value { result ≡ (laid as_entries (memory_in picture.now slot) starts.old).answer }
-    ensures starts_after { starts.new ≡ (laid as_entries (memory_in picture.now slot) starts.old).buffer }
+// Writes the starts of the plan's reads, rising, and answers how many there are. The entries beyond keep theirs.
+pub fn plan(picture: &[u8], address: AddressAsked, starts: &mut [u16]) -> Result<u16, Refusal>
+    ensures value { valued (coded result) ≡ (plan_reply picture.now address.0 starts.old).answer }
+    ensures starts_after { starts.new ≡ (plan_reply picture.now address.0 starts.old).buffer }
 {
+    let slot = module_asked(picture, address)?;
     let cells = cells_in(picture, slot);
     let at = memory_at(picture, slot);
     if fits(picture, at, cells, starts.len()) {
-        return Answer::Value(write_entries(picture, at, cells, starts));
-    }
-    Answer::Refused(TOO_SHORT)
-}
-
-// Writes the starts of the plan's reads, rising, and answers how many there are. The entries beyond keep theirs.
-pub fn plan(picture: &[u8], address: AddressAsked, starts: &mut [u16]) -> Answer
-    ensures value { result ≡ (plan_reply picture.now address.0 starts.old).answer }
-    ensures starts_after { starts.new ≡ (plan_reply picture.now address.0 starts.old).buffer }
-{
-    if picture.len() < SIZE {
-        return Answer::Refused(TOO_SHORT);
-    }
-    let slot = slot_asked(picture, address);
-    if slot < ROOM {
-        plan_in(picture, slot, starts)
+        Ok(write_entries(picture, at, cells, starts))
     } else {
-        Answer::Refused(TYPE_NOT_KNOWN)
+        Err(Refusal::TooShort)
     }
-}
-
-fn plan_bytes_in(picture: &[u8], slot: u8, out: &mut [u8]) -> Answer
-    requires { (size ≤ length picture.now) × (slot < room) }
-    ensures value { result ≡ (laid in_bytes (memory_in picture.now slot) out.old).answer }
-    ensures out_after { out.new ≡ (laid in_bytes (memory_in picture.now slot) out.old).buffer }
-{
-    let cells = cells_in(picture, slot);
-    let at = memory_at(picture, slot);
-    if fits(picture, at, cells, out.len() / 2) {
-        return Answer::Value(write_bytes(picture, at, cells, out));
-    }
-    Answer::Refused(TOO_SHORT)
 }
 
 // The same as bytes. An odd last byte holds no start, and keeps its own.
-pub fn plan_bytes(picture: &[u8], address: AddressAsked, out: &mut [u8]) -> Answer
-    ensures value { result ≡ (plan_bytes_reply picture.now address.0 out.old).answer }
+pub fn plan_bytes(picture: &[u8], address: AddressAsked, out: &mut [u8]) -> Result<u16, Refusal>
+    ensures value { valued (coded result) ≡ (plan_bytes_reply picture.now address.0 out.old).answer }
     ensures out_after { out.new ≡ (plan_bytes_reply picture.now address.0 out.old).buffer }
 {
-    if picture.len() < SIZE {
-        return Answer::Refused(TOO_SHORT);
-    }
-    let slot = slot_asked(picture, address);
-    if slot < ROOM {
-        plan_bytes_in(picture, slot, out)
+    let slot = module_asked(picture, address)?;
+    let cells = cells_in(picture, slot);
+    let at = memory_at(picture, slot);
+    if fits(picture, at, cells, out.len() / 2) {
+        Ok(write_bytes(picture, at, cells, out))
     } else {
-        Answer::Refused(TYPE_NOT_KNOWN)
+        Err(Refusal::TooShort)
     }
 }

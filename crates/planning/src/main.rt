@@ -2,15 +2,14 @@
 // --frames, the frames of those reads themselves, as a recording that is ready to be sent.
 #![tactic(auto)]
 
-use codec::{Frame, Writing};
+use codec::Frame;
 use frame::{Address, Command, Location, Message};
 use places::PLACES;
 use questions::AddressAsked;
-use recorder::Put;
-use replay::{Part, Stream};
-use shape::{ADDRESSES, Answer, Outcome};
+use replay::Stream;
+use shape::ADDRESSES;
 use std::env::Env;
-use std::io::{self, Read};
+use std::io;
 use texts::PLAN_ROOM;
 
 // No step back is taken.
@@ -24,41 +23,6 @@ const MOST_STARTS: usize = PLACES / 4;
 
 // A record is never longer.
 const RECORD_ROOM: usize = 16;
-
-// What became of the input: what was heard of it, or why it was not heard to its end.
-#[derive(Drop)]
-enum Input {
-    Heard(Stream),
-    NotRead,
-    NoRoom,
-}
-
-// Reads more of the input after the window's first `left` bytes: how many bytes came, 0 at the end.
-fn read_more<R: Read>(input: &mut R, window: &mut [u8], left: usize) -> io::Result<usize> {
-    match window.get_mut(left..) {
-        Some(room) => input.read(room),
-        None => Err(io::Error::from(io::ErrorKind::InvalidInput)),
-    }
-}
-
-// Hears the input, part by part, up to its end or to a bad number. A proved loop has to end, and nothing says that the input does: so
-// it counts up to a number that no run reaches.
-fn hear_input<R: Read>(input: &mut R, picture: &mut [u8], window: &mut [u8]) -> Input {
-    let mut stream = replay::begin();
-    for _ in 0..u64::MAX {
-        let Ok(n) = read_more(input, window, stream.left) else {
-            return Input::NotRead;
-        };
-        match replay::hear_part(picture, window, stream, n) {
-            Part::Heard(heard) => stream = heard,
-            Part::Refused(_) => return Input::NoRoom,
-        }
-        if n == 0 || stream.refusal == laws::BAD_NUMBER {
-            break;
-        }
-    }
-    Input::Heard(stream)
-}
 
 // The first bytes of a buffer, as many as there are said to be.
 fn put_out(rt: &(impl Print + Eprint), out: &[u8], count: usize) -> io::Result<()> {
@@ -82,9 +46,8 @@ fn put_plans(rt: &(impl Print + Eprint), picture: &[u8]) -> io::Result<()> {
 fn put_line(rt: &(impl Print + Eprint), picture: &[u8], address: u32) -> io::Result<()> {
     let mut out = [0u8; PLAN_ROOM];
     match texts::put_plan(picture, AddressAsked(address), &mut out) {
-        Answer::Value(count) => put_out(rt, &out, count as usize),
-        Answer::NotHeard => Ok(()),
-        Answer::Refused(_) => Ok(()),
+        Ok(count) => put_out(rt, &out, count as usize),
+        Err(_) => Ok(()),
     }
 }
 
@@ -108,8 +71,8 @@ fn put_record(
 ) -> io::Result<()> {
     let mut out = [0u8; RECORD_ROOM];
     match recorder::put_record(&mut out, 0, 0, identifier, remote, data) {
-        Put::Wrote(count) => put_out(rt, &out, count),
-        Put::Refused(_) => eprintln!(rt; "plan: there is no room for a record"),
+        Ok(count) => put_out(rt, &out, count),
+        Err(_) => eprintln!(rt; "plan: there is no room for a record"),
     }
 }
 
@@ -117,8 +80,8 @@ fn put_record(
 fn put_read(rt: &(impl Print + Eprint), kind: u32, address: u8, start: u16) -> io::Result<()> {
     let message = Message::Tells(Command::BlockAsked(Location(start)));
     match codec::write(kind, Address(address), message) {
-        Writing::Written(frame) => put_frame(rt, frame),
-        Writing::Refused(_) => eprintln!(rt; "plan: a read could not be written"),
+        Ok(frame) => put_frame(rt, frame),
+        Err(_) => eprintln!(rt; "plan: a read could not be written"),
     }
 }
 
@@ -144,17 +107,15 @@ fn put_module(
 ) -> io::Result<()> {
     let mut starts = [0u16; MOST_STARTS];
     match plan::plan(picture, AddressAsked(address), &mut starts) {
-        Answer::Value(count) => put_reads(rt, kind, (address % 256) as u8, &starts, count as usize),
-        Answer::NotHeard => Ok(()),
-        Answer::Refused(_) => Ok(()),
+        Ok(count) => put_reads(rt, kind, (address % 256) as u8, &starts, count as usize),
+        Err(_) => Ok(()),
     }
 }
 
 fn put_module_at(rt: &(impl Print + Eprint), picture: &[u8], address: u32) -> io::Result<()> {
     match questions::type_of(picture, AddressAsked(address)) {
-        Answer::Value(kind) => put_module(rt, picture, address, kind as u32),
-        Answer::NotHeard => Ok(()),
-        Answer::Refused(_) => Ok(()),
+        Ok(kind) => put_module(rt, picture, address, kind as u32),
+        Err(_) => Ok(()),
     }
 }
 
@@ -177,7 +138,7 @@ fn wants_frames(rt: &impl Env) -> bool {
 
 // A recording that breaks off is told, and what it said before the fault is used.
 fn answer(rt: &(impl Env + Print + Eprint), picture: &[u8], stream: Stream) -> io::Result<()> {
-    if stream.refusal != 0 {
+    if stream.fault.is_some() {
         eprintln!(rt; "plan: the recording is broken; the plan goes by what was heard before")?;
     }
     if wants_frames(rt) {
@@ -191,12 +152,11 @@ fn answer(rt: &(impl Env + Print + Eprint), picture: &[u8], stream: Stream) -> i
 fn main(rt: HostRuntime) -> io::Result<()> {
     let mut picture = [0u8; picture::SIZE];
     let mut window = [0u8; WINDOW];
-    let Outcome::Done = picture::fresh_with(&mut picture, DEPTH) else {
+    let Ok(()) = picture::fresh_with(&mut picture, DEPTH) else {
         return eprintln!(rt; "plan: there is no room for a picture");
     };
-    match hear_input(&mut rt.stdin(), &mut picture, &mut window) {
-        Input::Heard(stream) => answer(&rt, &picture, stream),
-        Input::NotRead => eprintln!(rt; "plan: the recording could not be read to its end"),
-        Input::NoRoom => eprintln!(rt; "plan: there is no room for the recording"),
+    match inputs::hear_input(&mut rt.stdin(), &mut picture, &mut window) {
+        Ok(stream) => answer(&rt, &picture, stream),
+        Err(unheard) => eprintln!(rt; "plan: {unheard}"),
     }
 }

@@ -9,7 +9,7 @@ use borrow.Author.Tests.{lt-ltb, ltb-true}
 use Rattle.laws.specs.Refusals.{no_such_place}
 use Rattle.kinds.specs.Types.{extent_of}
 use Rattle.places.specs.Places.{places, cell_place, cell_asked}
-use Rattle.shape.specs.declared.answers.Answer.TheVariants.{Refused}
+use Rattle.std.specs.Prelude.{Err}
 use Rattle.shape.specs.Layout.{place_at}
 use Rattle.questions.specs.Replies.{answer_at, place_reply}
 use Rattle.questions.proofs.Extents.{few-cells}
@@ -19,6 +19,6 @@ module _ (b : List ℕ) (s kind location : ℕ) where
   unfolding place_reply cell_asked
   cell_there e = rw (e, lt-ltb (cell_place kind location) places (omega (arith, few-cells kind, ltb-true location (extent_of kind).cells e)))
 
-  pub no_cell_there : ltb location (extent_of kind).cells ≡ false → Refused no_such_place ≡ (place_reply b s (cell_asked kind location) []).answer
+  pub no_cell_there : ltb location (extent_of kind).cells ≡ false → Err no_such_place ≡ (place_reply b s (cell_asked kind location) []).answer
   unfolding place_reply cell_asked
   no_cell_there e = rw e

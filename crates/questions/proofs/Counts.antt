@@ -1,5 +1,5 @@
 -- The count that the question on a name gives is that of the row which it filled, as specs/Statements.antt states it. Assumes nothing.
-use Prim.Native.Nat.{ℕ, ◌+◌, ◌<◌}
+use Prim.Native.Nat.{ℕ, ◌+◌}
 use native.Mathlib.Omega.{arith}
 use mathlib.Core.Path.{◌≡◌, refl, sym, ap, ◌∙◌}
 use mathlib.Core.Bool.{Bool, true, false, cond}
@@ -9,8 +9,8 @@ use lib.ListN.{length, get_or}
 use borrow.Author.Tests.{eqb-true, eqb-false, lt-ltb, le-ltb, leb-true}
 use Rattle.laws.specs.Limits.{AllBytes}
 use Rattle.laws.specs.Refusals.{type_not_known, no_such_place, too_short}
-use Rattle.shape.specs.declared.answers.Answer.{Answer}
-use Rattle.shape.specs.declared.answers.Answer.TheVariants.{Value, NotHeard, Refused}
+use Rattle.std.specs.Prelude.{Some, None, Ok, Err}
+use Rattle.shape.specs.Answers.{Answer}
 use Rattle.shape.specs.Limits.{room}
 use Rattle.places.specs.Places.{Row, has_name, row_of_name, name_length}
 use Rattle.shape.specs.Layout.{place_at}
@@ -31,17 +31,17 @@ heard_of_lem b o bytes = go (eqb (get_or b (o + 1) 0) 0) refl
 
 -- a reply whose count, where it gives one, is that of its row
 abbrev Counts : Reply → Type 0
-Counts r = (count : ℕ) → r.answer ≡ Value count → count ≡ heard_of r.buffer
+Counts r = (count : ℕ) → r.answer ≡ Ok (Some count) → count ≡ heard_of r.buffer
 
 abbrev value_in : Answer → ℕ
-value_in (Value v) = v
-value_in NotHeard = 0
-value_in (Refused n) = 0
+value_in (Ok (Some v)) = v
+value_in (Ok None) = 0
+value_in (Err n) = 0
 
 abbrev is_value : Answer → ℕ
-is_value (Value v) = 1
-is_value NotHeard = 0
-is_value (Refused n) = 0
+is_value (Ok (Some v)) = 1
+is_value (Ok None) = 0
+is_value (Err n) = 0
 
 refused_counts : (n : ℕ) (out : List ℕ) → Counts (refusing n out)
 refused_counts n out count e = absurd (let z : ◌≡◌ {A = ℕ} 0 1 = ap is_value e in omega arith)

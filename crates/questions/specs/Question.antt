@@ -1,7 +1,6 @@
 -- Every question on an address, and what is given back. Assumes nothing.
-use Rattle.std.specs.Prelude.{ℕ, List}
-use Rattle.shape.specs.declared.answers.Answer.{Answer}
-use Rattle.shape.specs.declared.answers.Answer.TheVariants.{Value, Refused}
+use Rattle.std.specs.Prelude.{ℕ, List, Some, Ok, Err}
+use Rattle.shape.specs.Answers.{Answer}
 
 -- LEDs, blinds and names are counted from 1, cells by their location
 pub data Question : Type 0 where
@@ -28,7 +27,7 @@ abbrev pub answering : Answer → List ℕ → Reply
 answering answer out = record { answer = answer; buffer = out }
 
 abbrev pub value : ℕ → List ℕ → Reply
-value n out = answering (Value n) out
+value n out = answering (Ok (Some n)) out
 
 abbrev pub refusing : ℕ → List ℕ → Reply
-refusing n out = answering (Refused n) out
+refusing n out = answering (Err n) out

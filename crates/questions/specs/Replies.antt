@@ -1,9 +1,8 @@
 -- The questions on the picture's bytes, for every list of bytes. Refusals in order: 13 for the picture, 5, 12, 13 for the buffer to fill.
 -- Assumes nothing.
-use Rattle.std.specs.Prelude.{ℕ, ◌+◌, ◌&&◌, cond, List, eqb, ltb, get_or}
+use Rattle.std.specs.Prelude.{ℕ, ◌+◌, ◌&&◌, cond, List, eqb, ltb, get_or, Some, None, Result, Ok, Err}
 use Rattle.laws.specs.Refusals.{type_not_known, no_such_place, too_short}
-use Rattle.shape.specs.declared.answers.Answer.{Answer}
-use Rattle.shape.specs.declared.answers.Answer.TheVariants.{Value, NotHeard, Refused}
+use Rattle.shape.specs.Answers.{Answer}
 use Rattle.shape.specs.Limits.{room, addresses}
 use Rattle.places.specs.Places.{places, year_place, week_place, cell_asked, led_asked, blind_asked, has_name, row_of_name, cell_row}
 use Rattle.shape.specs.Layout.{place_at}
@@ -15,9 +14,13 @@ use Rattle.questions.specs.Fills.{filling, value_at, numbers_fill, bytes_fill, h
 unfoldable pub slot_asked : List ℕ → ℕ → ℕ
 slot_asked b a = cond (ltb a addresses) (slot_of b a) no_slot
 
+-- the slot of the module that is asked: 13 for a picture too short, 5 where no module is listed
+unfoldable pub module_asked : List ℕ → ℕ → Result ℕ ℕ
+module_asked b a = cond (short b) (Err too_short) (cond (ltb (slot_asked b a) room) (Ok (slot_asked b a)) (Err type_not_known))
+
 -- the two bytes of a place: 0 and 1 where it is not heard, else a number, low byte first
 abbrev pub answer_at : List ℕ → ℕ → Answer
-answer_at b o = cond (eqb (get_or b o 0) 0 && eqb (get_or b (o + 1) 0) 1) NotHeard (Value (value_at b o))
+answer_at b o = cond (eqb (get_or b o 0) 0 && eqb (get_or b (o + 1) 0) 1) (Ok None) (Ok (Some (value_at b o)))
 
 -- a place of the module in slot s: 12 for no place
 unfoldable pub place_reply : List ℕ → ℕ → ℕ → List ℕ → Reply
@@ -50,7 +53,7 @@ reply b a q out = cond (short b) (refusing too_short out) (reply_in b (slot_aske
 -- ---- questions on no address
 -- the count kept
 unfoldable pub kept_answer : List ℕ → Answer
-kept_answer b = cond (short b) (Refused too_short) (Value (kept_of b))
+kept_answer b = cond (short b) (Err too_short) (Ok (Some (kept_of b)))
 
 -- which addresses are listed
 abbrev pub listed_if : List ℕ → ℕ → ℕ

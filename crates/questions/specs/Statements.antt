@@ -1,7 +1,6 @@
 -- What holds of the questions beyond each function's own contract. The proofs are proofs/RowBytes.antt and proofs/Counts.antt.
-use Rattle.std.specs.Prelude.{ℕ, ◌/◌, ◌%◌, ◌≡◌, List, [], ◌∷◌, cond, ltb, get_or}
+use Rattle.std.specs.Prelude.{ℕ, ◌/◌, ◌%◌, ◌≡◌, List, [], ◌∷◌, cond, ltb, get_or, Some, Ok}
 use Rattle.laws.specs.Limits.{AllBytes}
-use Rattle.shape.specs.declared.answers.Answer.TheVariants.{Value}
 use Rattle.questions.specs.Question.{Question, name_row, name_bytes, memory_row, memory_bytes, Reply}
 use Rattle.questions.specs.Fills.{sum_to}
 use Rattle.questions.specs.Replies.{reply}
@@ -30,4 +29,4 @@ heard_of row = sum_to (λ i. cond (ltb (get_or row i 0) 256) 1 0) 16
 abbrev pub CountIsOfRow : Type 0
 CountIsOfRow =
     (b : List ℕ) → AllBytes b → (a n : ℕ) (row : List ℕ) (count : ℕ)
-    → (reply b a (name_row n) row).answer ≡ Value count → count ≡ heard_of (reply b a (name_row n) row).buffer
+    → (reply b a (name_row n) row).answer ≡ Ok (Some count) → count ≡ heard_of (reply b a (name_row n) row).buffer

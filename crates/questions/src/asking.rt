@@ -1,11 +1,14 @@
 // What every question goes through: the slot of the address asked for, and what a place holds.
-ghost use Rattle.std.specs.Prelude.{◌≡◌, ◌+◌, ◌≤◌, length};
+ghost use Rattle.std.specs.Prelude.{◌≡◌, ◌+◌, ◌<◌, ◌≤◌, length, IfOk, Ok};
+ghost use Rattle.laws.specs.Codes.{coded};
+ghost use Rattle.shape.specs.Limits.{room};
+ghost use Rattle.shape.specs.Layout.{size};
 ghost use Rattle.questions.specs.Fills.{value_at};
-ghost use Rattle.questions.specs.Replies.{slot_asked, answer_at};
+ghost use Rattle.questions.specs.Replies.{slot_asked, module_asked, answer_at};
 
 use frame::Address;
-use laws::number16;
-use shape::{ADDRESSES, Answer, NO_SLOT, NOT_HEARD, slot_of};
+use laws::{Refusal, number16};
+use shape::{ADDRESSES, NO_SLOT, NOT_HEARD, ROOM, SIZE, slot_of};
 
 // What a question names may be any number. An address and a location are types of their own, so that neither stands for the other.
 #[derive(Clone, Copy)]
@@ -26,6 +29,22 @@ pub fn slot_asked(picture: &[u8], address: AddressAsked) -> u8
     }
 }
 
+// The slot of the module that is asked: a picture too short is refused, and an address where none is listed.
+pub fn module_asked(picture: &[u8], address: AddressAsked) -> Result<u8, Refusal>
+    ensures value { coded result ≡ module_asked picture.now address.0 }
+    ensures found { IfOk result (λ slot. (size ≤ length picture.now) × (slot < room) × (slot ≡ slot_asked picture.now address.0)) }
+{
+    if picture.len() < SIZE {
+        return Err(Refusal::TooShort);
+    }
+    let slot = slot_asked(picture, address);
+    if slot < ROOM {
+        Ok(slot)
+    } else {
+        Err(Refusal::TypeNotKnown)
+    }
+}
+
 // The two bytes of a place as one number, low byte first. The function does nothing else with them, so that it is one load.
 pub(crate) fn number_at(picture: &[u8], at: usize) -> u16
     requires { at + 2 ≤ length picture.now }
@@ -34,15 +53,15 @@ pub(crate) fn number_at(picture: &[u8], at: usize) -> u16
     number16(picture[at], picture[at + 1])
 }
 
-// What a place's number says.
-pub(crate) fn answer_at(picture: &[u8], at: usize) -> Answer
+// What a place's number says; None where it is not heard.
+pub(crate) fn told_at(picture: &[u8], at: usize) -> Option<u16>
     requires { at + 2 ≤ length picture.now }
-    ensures { result ≡ answer_at picture.now at }
+    ensures { Ok result ≡ answer_at picture.now at }
 {
     let number = number_at(picture, at);
     if number == NOT_HEARD {
-        Answer::NotHeard
+        None
     } else {
-        Answer::Value(number)
+        Some(number)
     }
 }

@@ -1,20 +1,22 @@
 // Questions that fill a row: which addresses are listed, and the memory of a module. A row of places is filled as numbers, or as bytes.
 ghost use Rattle.std.specs.Prelude.{◌≡◌, ◌+◌, ◌*◌, ◌<◌, ◌≤◌, length, get_or};
+ghost use Rattle.laws.specs.Codes.{coded};
+ghost use Rattle.shape.specs.Answers.{filled};
 ghost use Rattle.shape.specs.Limits.{room, addresses};
 ghost use Rattle.shape.specs.Layout.{size};
 ghost use Rattle.places.specs.Places.{cell_row};
 ghost use Rattle.shape.specs.Head.{kind_in};
 ghost use Rattle.questions.specs.Question.{memory_row, memory_bytes};
-ghost use Rattle.questions.specs.Fills.{filled_to, value_at, numbers_fill, bytes_fill};
+ghost use Rattle.questions.specs.Fills.{filled_to, value_at};
 ghost use Rattle.questions.specs.Replies.{listed_if, listing, reply};
 
-use crate::asking::{AddressAsked, number_at, slot_asked};
+use crate::asking::{AddressAsked, module_asked, number_at};
 use copying::copy_front;
 use frame::{Address, Location};
 use kinds::extent_of;
-use laws::{TOO_SHORT, TYPE_NOT_KNOWN, wide32};
+use laws::{Refusal, wide32};
 use places::cell_place;
-use shape::{ADDRESSES, Answer, ROOM, SIZE, kind_in, place_at, put_at, slot_of};
+use shape::{ADDRESSES, ROOM, SIZE, kind_in, place_at, put_at, slot_of};
 
 fn listed_if(picture: &[u8], address: Address) -> u8
     ensures { result ≡ listed_if picture.now address.0 }
@@ -29,27 +31,24 @@ fn listed_if(picture: &[u8], address: Address) -> u8
 fn fill_listed(picture: &[u8], out: &mut [u8])
     ensures { out.new ≡ filled_to (listed_if picture.now) out.old addresses }
 {
-    let mut i: usize = 0;
-    while i < ADDRESSES as usize {
-        let yes = listed_if(picture, Address(i as u8));
-        put_at(out, i, yes);
-        i += 1;
+    for i in 0..ADDRESSES as usize {
+        put_at(out, i, listed_if(picture, Address(i as u8)));
     }
 }
 
 // The listed addresses, rising, as 256 yes or no.
-pub fn listed(picture: &[u8], out: &mut [u8]) -> Answer
-    ensures value { result ≡ (listing picture.now out.old).answer }
+pub fn listed(picture: &[u8], out: &mut [u8]) -> Result<(), Refusal>
+    ensures value { filled (coded result) ≡ (listing picture.now out.old).answer }
     ensures out_after { out.new ≡ (listing picture.now out.old).buffer }
 {
     if picture.len() < SIZE {
-        return Answer::Refused(TOO_SHORT);
+        return Err(Refusal::TooShort);
     }
     if out.len() < ADDRESSES as usize {
-        return Answer::Refused(TOO_SHORT);
+        return Err(Refusal::TooShort);
     }
     fill_listed(picture, out);
-    Answer::Value(0)
+    Ok(())
 }
 
 // n places, the first of which is at `at`, as numbers.
@@ -57,10 +56,8 @@ pub(crate) fn fill_numbers(picture: &[u8], at: usize, n: usize, out: &mut [u16])
     requires { (at + 2 * n ≤ length picture.now) × (n ≤ length out.old) }
     ensures { out.new ≡ filled_to (λ i. value_at picture.now (at + 2 * i)) out.old n }
 {
-    let mut i: usize = 0;
-    while i < n {
+    for i in 0..n {
         out[i] = number_at(picture, at + 2 * i);
-        i += 1;
     }
 }
 
@@ -87,63 +84,32 @@ pub fn first_cell(picture: &[u8], slot: u8) -> u32
     cell_place(kind_in(picture, slot), Location(0))
 }
 
-fn memory_in(picture: &[u8], slot: u8, out: &mut [u16]) -> Answer
-    requires { (size ≤ length picture.now) × (slot < room) }
-    ensures value { result ≡ (numbers_fill 0 picture.now slot (cell_row (kind_in picture.now slot)) out.old).answer }
-    ensures out_after { out.new ≡ (numbers_fill 0 picture.now slot (cell_row (kind_in picture.now slot)) out.old).buffer }
+// One number for each cell: 0 to 255 as told, 256 for not heard. The entries beyond keep theirs.
+pub fn memory_row(picture: &[u8], address: AddressAsked, out: &mut [u16]) -> Result<(), Refusal>
+    ensures value { filled (coded result) ≡ (reply picture.now address.0 memory_row out.old).answer }
+    ensures out_after { out.new ≡ (reply picture.now address.0 memory_row out.old).buffer }
 {
+    let slot = module_asked(picture, address)?;
     let n = cells_in(picture, slot);
     if out.len() < n {
-        return Answer::Refused(TOO_SHORT);
+        return Err(Refusal::TooShort);
     }
     let at = place_at(slot, first_cell(picture, slot));
     fill_numbers(picture, at, n, out);
-    Answer::Value(0)
+    Ok(())
 }
 
-// One number for each cell: 0 to 255 as told, 256 for not heard. The entries beyond keep theirs.
-pub fn memory_row(picture: &[u8], address: AddressAsked, out: &mut [u16]) -> Answer
-    ensures value { result ≡ (reply picture.now address.0 memory_row out.old).answer }
-    ensures out_after { out.new ≡ (reply picture.now address.0 memory_row out.old).buffer }
+// The same row as bytes, two for each number, low byte first. So do a place's two bytes make its number, so that the row is a copy.
+pub fn memory_bytes(picture: &[u8], address: AddressAsked, out: &mut [u8]) -> Result<(), Refusal>
+    ensures value { filled (coded result) ≡ (reply picture.now address.0 memory_bytes out.old).answer }
+    ensures out_after { out.new ≡ (reply picture.now address.0 memory_bytes out.old).buffer }
 {
-    if picture.len() < SIZE {
-        return Answer::Refused(TOO_SHORT);
-    }
-    let slot = slot_asked(picture, address);
-    if slot < ROOM {
-        memory_in(picture, slot, out)
-    } else {
-        Answer::Refused(TYPE_NOT_KNOWN)
-    }
-}
-
-// A place's two bytes are its number, low byte first, so that the row as bytes is a copy.
-fn memory_bytes_in(picture: &[u8], slot: u8, out: &mut [u8]) -> Answer
-    requires { (size ≤ length picture.now) × (slot < room) }
-    ensures value { result ≡ (bytes_fill 0 picture.now slot (cell_row (kind_in picture.now slot)) out.old).answer }
-    ensures out_after { out.new ≡ (bytes_fill 0 picture.now slot (cell_row (kind_in picture.now slot)) out.old).buffer }
-{
+    let slot = module_asked(picture, address)?;
     let n = 2 * cells_in(picture, slot);
     if out.len() < n {
-        return Answer::Refused(TOO_SHORT);
+        return Err(Refusal::TooShort);
     }
     let at = place_at(slot, first_cell(picture, slot));
     fill_bytes(picture, at, n, out);
-    Answer::Value(0)
-}
-
-// The same row as bytes, two for each number, low byte first.
-pub fn memory_bytes(picture: &[u8], address: AddressAsked, out: &mut [u8]) -> Answer
-    ensures value { result ≡ (reply picture.now address.0 memory_bytes out.old).answer }
-    ensures out_after { out.new ≡ (reply picture.now address.0 memory_bytes out.old).buffer }
-{
-    if picture.len() < SIZE {
-        return Answer::Refused(TOO_SHORT);
-    }
-    let slot = slot_asked(picture, address);
-    if slot < ROOM {
-        memory_bytes_in(picture, slot, out)
-    } else {
-        Answer::Refused(TYPE_NOT_KNOWN)
-    }
+    Ok(())
 }

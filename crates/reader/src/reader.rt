@@ -1,12 +1,14 @@
 // The reader: a frame's message with its address, or the first refusal in document 01's order.
 ghost use Rattle.std.specs.Prelude.{◌≡◌};
+ghost use Rattle.laws.specs.Codes.{coded};
 ghost use Rattle.frame.specs.Bytes.{data_of, bytes_of};
 ghost use Rattle.frame.specs.Messages.{decode};
 ghost use Rattle.judging.specs.Reading.{reading};
 
 use decoding::decoded;
-use frame::{Message, Reading, address_of, gathered};
+use frame::{Address, Message, address_of, gathered};
 use judging::judge;
+use laws::Refusal;
 
 // The message of a frame with data.
 fn command_told(data: &[u8]) -> Message
@@ -15,17 +17,19 @@ fn command_told(data: &[u8]) -> Message
     Message::Tells(decoded(gathered(data)))
 }
 
-pub fn read(kind: u32, identifier: u32, remote: u32, data: &[u8]) -> Reading
-    ensures { result ≡ reading kind identifier remote «data».now }
+pub fn read(
+    kind: u32,
+    identifier: u32,
+    remote: u32,
+    data: &[u8],
+) -> Result<(Address, Message), Refusal>
+    ensures { coded result ≡ reading kind identifier remote «data».now }
 {
-    let n = judge(kind, identifier, remote, data);
-    if n != 0 {
-        return Reading::Refused(n);
-    }
-    let a = address_of(identifier);
+    judge(kind, identifier, remote, data)?;
+    let address = address_of(identifier);
     if remote == 1 {
-        Reading::Read(a, Message::TypeRequest)
+        Ok((address, Message::TypeRequest))
     } else {
-        Reading::Read(a, command_told(data))
+        Ok((address, command_told(data)))
     }
 }

@@ -11,16 +11,11 @@ use lib.Seq.{drop-drop, drop-append_seam, take-append_seam, length-take-le, drop
 use lib.Dec.{leb}
 use borrow.Author.Tests.{lt-ltb, le-leb, leb-true}
 use Rattle.laws.proofs.Stores.{drop-after}
-use Rattle.groups.specs.declared.scan.Found.{Found}
-use Rattle.groups.specs.declared.scan.Found.TheVariants.{Value}
-use Rattle.recording.specs.declared.records.Entry.{Entry}
-use Rattle.recording.specs.declared.records.Entry.TheVariants.{Record, End, Broken}
-use Rattle.recorder.specs.declared.writes.Put.{Put}
-use Rattle.recorder.specs.declared.writes.Put.TheVariants.{Wrote, Refused}
+use Rattle.std.specs.Prelude.{Some, Result, Ok, Err}
 use Rattle.laws.specs.Refusals.{too_short, bad_number}
 use Rattle.recording.specs.Limits.{most_gap, most_word, most_count, in_range}
-use Rattle.groups.specs.Number.{most_groups, bytes_of, groups_of, number_at}
-use Rattle.recording.specs.Record.{after, read_data, read_count, read_word, read_within, read_record}
+use Rattle.groups.specs.Number.{Found, most_groups, bytes_of, groups_of, number_at}
+use Rattle.recording.specs.Record.{Entry, recorded, End, Broken, after, read_data, read_count, read_word, read_within, read_record}
 use Rattle.recorder.specs.Write.{record_bytes, put_answer, put_bytes, placed}
 use Rattle.laws.specs.Limits.{AllBytes}
 use Rattle.recorder.specs.Statements.{StandsAt, BytesReadBack, WrittenIsRead, ReadIsWritten}
@@ -60,18 +55,18 @@ module _ (s : List ℕ) (at gap identifier remote : ℕ) (ds q : List ℕ) (fits
   rest₃ : drop (p₂ + 1) s ≡ ds ++ q
   rest₃ = drop-after s p₂ (length ds ∷ []) (ds ++ q) rest₂
 
-  read₁ : number_at s at most_gap ≡ Value gap (groups_of gap)
+  read₁ : number_at s at most_gap ≡ Ok (gap, groups_of gap)
   read₁ = let r = ranges in read_at s at gap most_gap _ r.gap_fits (omega arith) parts
 
-  read₂ : number_at s p₁ most_word ≡ Value word (groups_of word)
+  read₂ : number_at s p₁ most_word ≡ Ok (word, groups_of word)
   read₂ = let r = ranges in read_at s p₁ word most_word _ (omega arith) (omega arith) rest₁
 
-  read₃ : number_at s p₂ most_count ≡ Value (length ds) 1
+  read₃ : number_at s p₂ most_count ≡ Ok (length ds, 1)
   read₃ =
       let r = ranges in
       let one : bytes_of (length ds) ≡ length ds ∷ [] = bytes_last most_groups (length ds) (λ e. omega arith) (omega arith) in
       read_at s p₂ (length ds) most_count (ds ++ q) r.few (omega arith) (rest₂ ∙ ap (λ (l : List ℕ). l ++ (ds ++ q)) (sym one))
-      ∙ ap (λ (l : List ℕ). Value (length ds) (length l)) one
+      ∙ ap (λ (l : List ℕ). Ok (length ds, length l)) one
 
   inside : at < length s
   inside = omega (arith, length-drop at s, ap length here, length-append (record_bytes gap identifier remote ds) q, record-length gap identifier remote ds)
@@ -79,7 +74,7 @@ module _ (s : List ℕ) (at gap identifier remote : ℕ) (ds q : List ℕ) (fits
   enough : length ds ≤ length s - (p₂ + 1)
   enough = omega (arith, length-drop (p₂ + 1) s, ap length rest₃, length-append ds q)
 
-  record-read : read_record s at ≡ Record gap identifier remote (p₂ + 1) (length ds) (p₂ + 1 + length ds)
+  record-read : read_record s at ≡ recorded gap identifier remote (p₂ + 1) (length ds) (p₂ + 1 + length ds)
   unfolding read_within
   record-read =
       let r = ranges in
@@ -89,13 +84,13 @@ module _ (s : List ℕ) (at gap identifier remote : ℕ) (ds q : List ℕ) (fits
       (ap (λ (n : Found). after s at n (read_word s)) read₁
       ∙ ap (λ (n : Found). after s p₁ n (λ word next. read_count s gap (word / 2) (word % 2) next)) read₂
       ∙ ap (λ (n : Found). after s p₂ n (read_data s gap (word / 2) (word % 2))) read₃
-      ∙ (rw (le-leb (length ds) (length s - (p₂ + 1)) enough) (λ k. Record gap (i k) (f k) (p₂ + 1) (length ds) (p₂ + 1 + length ds))))
+      ∙ (rw (le-leb (length ds) (length s - (p₂ + 1)) enough) (λ k. recorded gap (i k) (f k) (p₂ + 1) (length ds) (p₂ + 1 + length ds))))
 
   stands : (next : ℕ) → next ≡ at + length (record_bytes gap identifier remote ds) → StandsAt s at gap identifier remote ds next
   stands next e =
       let st : p₂ + 1 ≡ next - length ds = omega (arith, record-length gap identifier remote ds) in
       let nx : p₂ + 1 + length ds ≡ next = omega (arith, record-length gap identifier remote ds) in (
-        record-read ∙ (λ k. Record gap identifier remote (st k) (length ds) (nx k)),
+        record-read ∙ (λ k. recorded gap identifier remote (st k) (length ds) (nx k)),
         ap (λ (n : ℕ). take (length ds) (drop n s)) (sym st) ∙ ap (take (length ds)) rest₃ ∙ take-append_seam ds q,
       )
 
@@ -105,7 +100,7 @@ bytes_read_back before after gap identifier remote ds fits =
     stands (before ++ (bytes ++ after)) (length before) gap identifier remote ds after fits (drop-append_seam before (bytes ++ after)) (length before + length bytes) refl
 
 -- an answer that is no refusal comes from the choice that gives it
-wrote : (t : Bool) (x : Put) (k n : ℕ) → cond t x (Refused k) ≡ Wrote n → (t ≡ true) × (x ≡ Wrote n)
+wrote : (t : Bool) (x : Result ℕ ℕ) (k n : ℕ) → cond t x (Err k) ≡ Ok n → (t ≡ true) × (x ≡ Ok n)
 wrote true x k n e = (refl, e)
 wrote false x k n e = absurd (let z : ◌≡◌ {A = ℕ} 0 1 = cc in omega arith)
 
@@ -113,9 +108,9 @@ pub written_is_read : WrittenIsRead
 unfolding put_answer
 written_is_read b at gap identifier remote ds n e =
     let bytes : List ℕ = record_bytes gap identifier remote ds in
-    let c₁ = wrote (in_range gap identifier remote (length ds)) (cond (leb (at + length bytes) (length b)) (Wrote (length bytes)) (Refused too_short)) bad_number n e in
-    let c₂ = wrote (leb (at + length bytes) (length b)) (Wrote (length bytes)) too_short n c₁.1 in
-    let same : Wrote (length bytes) ≡ Wrote n = c₂.1 in
+    let c₁ = wrote (in_range gap identifier remote (length ds)) (cond (leb (at + length bytes) (length b)) (Ok (length bytes)) (Err too_short)) bad_number n e in
+    let c₂ = wrote (leb (at + length bytes) (length b)) (Ok (length bytes)) too_short n c₁.1 in
+    let same : ◌≡◌ {A = Result ℕ ℕ} (Ok (length bytes)) (Ok n) = c₂.1 in
     let count : length bytes ≡ n = cc in
     let fits : at + length bytes ≤ length b = leb-true _ _ c₂.0 in
     let put : placed b at bytes ≡ put_bytes b at gap identifier remote ds = (put-done b at gap identifier remote ds c₁.0 fits).1 in
@@ -125,7 +120,7 @@ written_is_read b at gap identifier remote ds n e =
 
 -- from `at` on stand the bytes that writing the record gives
 abbrev Same : List ℕ → ℕ → Entry → Type 0
-Same s at (Record gap identifier remote start len next) = drop at s ≡ record_bytes gap identifier remote (take len (drop start s)) ++ drop next s
+Same s at (Ok (Some r)) = drop at s ≡ record_bytes r.gap r.identifier r.remote (take r.len (drop r.start s)) ++ drop r.next s
 Same s at End = Unit
 Same s at (Broken refusal offset) = Unit
 
@@ -164,6 +159,6 @@ read_is_written s by at gap identifier remote start len next e =
     let count : length bytes ≡ next - at = omega (arith, ap length h, length-append bytes (drop next s), length-drop at s, length-drop next s, w.starts, w.ends, w.inside) in
     let past : at + length bytes ≡ next = omega (arith, w.starts, w.ends) in
     let done = put-done s at gap identifier remote ds fits (omega (arith, w.inside)) in (
-      sym done.0 ∙ ap Wrote count,
+      sym done.0 ∙ ap Ok count,
       sym done.1 ∙ ap (λ (k : ℕ). take at s ++ (bytes ++ drop k s)) past ∙ ap (λ (l : List ℕ). take at s ++ l) (sym h) ∙ take-append-drop at s,
     )

@@ -7,15 +7,14 @@
 use mathlib.Core.Path.{◌≡◌, refl, sym, ap, ◌∙◌}
 use mathlib.Core.List.{List, ◌∷◌, ◌++◌}
 use mathlib.Core.Bool.{true, false}
-use Prim.Native.Nat.{ℕ, suc, ◌+◌, ◌-◌, ◌*◌, ◌≤◌, ◌<◌}
+use Prim.Native.Nat.{ℕ, suc, ◌+◌, ◌*◌, ◌≤◌, ◌<◌}
 use native.Mathlib.Numerals.{add-one}
 use native.Mathlib.Omega.{arith}
 use lib.ListN.{length, set, length-append}
 use lib.Seq.{sets}
 use borrow.Author.Tests.{le-leb, lt-leb}
 use Rattle.laws.proofs.Stores.{sets_append}
-use Rattle.recorder.specs.declared.writes.Put.{Put}
-use Rattle.recorder.specs.declared.writes.Put.TheVariants.{Wrote, Refused}
+use Rattle.std.specs.Prelude.{Result, Ok, Err}
 use Rattle.laws.specs.Refusals.{too_short, bad_number}
 use Rattle.groups.specs.Number.{bytes_of, groups_of}
 use Rattle.groups.specs.Write.{put_groups, put_into}
@@ -66,18 +65,18 @@ sets_record out ds gap identifier remote a n o₁ o₂ o₃ ea en e₁ e₂ e₃
     ∙ sym (sets_append G (W ++ D) out 0 ∙ (λ i. sets (sym e₁ i) (sym start i) (W ++ D)) ∙ sets_append W D o₁ a ∙ (λ i. sets (sym e₂ i) (sym past i) D))
 
 module _ (b : List ℕ) (at gap identifier remote : ℕ) (ds : List ℕ) where
-  abbrev Given : Put → List ℕ → Type 0
+  abbrev Given : Result ℕ ℕ → List ℕ → Type 0
   Given answer bytes = (answer ≡ put_answer b at gap identifier remote ds) × (bytes ≡ put_bytes b at gap identifier remote ds)
 
-  pub put_out_of_range : in_range gap identifier remote (length ds) ≡ false → Given (Refused bad_number) b
+  pub put_out_of_range : in_range gap identifier remote (length ds) ≡ false → Given (Err bad_number) b
   unfolding put_answer put_bytes
   put_out_of_range e = rw e (refl, refl)
 
-  pub put_no_room : in_range gap identifier remote (length ds) ≡ true → length b < at + length (record_bytes gap identifier remote ds) → Given (Refused too_short) b
+  pub put_no_room : in_range gap identifier remote (length ds) ≡ true → length b < at + length (record_bytes gap identifier remote ds) → Given (Err too_short) b
   unfolding put_answer put_bytes
   put_no_room e h = rw (e, lt-leb (at + length (record_bytes gap identifier remote ds)) (length b) h) (refl, refl)
 
   pub put-done : in_range gap identifier remote (length ds) ≡ true → at + length (record_bytes gap identifier remote ds) ≤ length b
-      → Given (Wrote (length (record_bytes gap identifier remote ds))) (placed b at (record_bytes gap identifier remote ds))
+      → Given (Ok (length (record_bytes gap identifier remote ds))) (placed b at (record_bytes gap identifier remote ds))
   unfolding put_answer put_bytes
   put-done e h = rw (e, le-leb (at + length (record_bytes gap identifier remote ds)) (length b) h) (refl, refl)

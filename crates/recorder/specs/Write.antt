@@ -1,7 +1,5 @@
 -- What writing a record gives: the answer, and the buffer's bytes.
-use Rattle.std.specs.Prelude.{ℕ, ◌+◌, ◌*◌, List, ◌∷◌, ◌++◌, Bool, cond, leb, length, take, drop}
-use Rattle.recorder.specs.declared.writes.Put.{Put}
-use Rattle.recorder.specs.declared.writes.Put.TheVariants.{Wrote, Refused}
+use Rattle.std.specs.Prelude.{ℕ, ◌+◌, ◌*◌, List, ◌∷◌, ◌++◌, Bool, cond, leb, length, take, drop, Result, Ok, Err}
 use Rattle.laws.specs.Answers.{Numbers, value, refusal}
 use Rattle.laws.specs.Refusals.{too_short, bad_number}
 use Rattle.recording.specs.Limits.{in_range}
@@ -16,15 +14,15 @@ abbrev pub put_case : {A : Type 0} → Bool → ℕ → ℕ → List ℕ → A �
 put_case ranged n at bytes range room put = cond ranged (cond (leb (at + length bytes) n) put room) range
 
 -- the count of the bytes written, or the refusal
-unfoldable pub put_answer : List ℕ → ℕ → ℕ → ℕ → ℕ → List ℕ → Put
+unfoldable pub put_answer : List ℕ → ℕ → ℕ → ℕ → ℕ → List ℕ → Result ℕ ℕ
 put_answer b at gap identifier remote ds =
     put_case (in_range gap identifier remote (length ds)) (length b) at (record_bytes gap identifier remote ds)
-    (Refused bad_number) (Refused too_short) (Wrote (length (record_bytes gap identifier remote ds)))
+    (Err bad_number) (Err too_short) (Ok (length (record_bytes gap identifier remote ds)))
 
 -- in the paper's numbers
-abbrev pub put_numbers : Put → Numbers
-put_numbers (Wrote n) = value n
-put_numbers (Refused n) = refusal n
+abbrev pub put_numbers : Result ℕ ℕ → Numbers
+put_numbers (Ok n) = value n
+put_numbers (Err n) = refusal n
 
 -- `bytes` at the place `at` of the buffer b, and every other byte as it was
 abbrev pub placed : List ℕ → ℕ → List ℕ → List ℕ

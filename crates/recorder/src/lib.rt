@@ -3,4 +3,4 @@
 
 mod writes;
 
-pub use writes::{Put, put_record};
+pub use writes::put_record;

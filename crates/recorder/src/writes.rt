@@ -1,19 +1,13 @@
 // The writer of records.
 ghost use Rattle.std.specs.Prelude.{true, ◌≡◌, ◌≤◌, length};
 ghost use Rattle.std.proofs.lemmas.List.Edits.{sets};
+ghost use Rattle.laws.specs.Codes.{coded};
 ghost use Rattle.recording.specs.Limits.{in_range};
 ghost use Rattle.recorder.specs.Write.{record_bytes, put_answer, put_bytes};
 
 use groups::{number_size, put_number};
-use laws::{MOST_IDENTIFIER, copy_in};
+use laws::{MOST_IDENTIFIER, Refusal, copy_in};
 use recording::{MOST_COUNT, MOST_GAP, MOST_REMOTE};
-
-// How many bytes were written, or the refusal's number.
-#[derive(Clone, Copy)]
-pub enum Put {
-    Wrote(usize),
-    Refused(u16),
-}
 
 // Whether every number of a record is in its range.
 fn in_range(gap: u64, identifier: u32, remote: u32, count: usize) -> bool
@@ -56,7 +50,7 @@ fn fill(out: &mut [u8], gap: u64, identifier: u32, remote: u32, data: &[u8])
     copy_in(out, b + 1, data);
 }
 
-// Puts a record at `at` in the caller's buffer.
+// Puts a record at `at` in the caller's buffer, and answers how many bytes it has.
 pub fn put_record(
     buf: &mut [u8],
     at: usize,
@@ -64,20 +58,20 @@ pub fn put_record(
     identifier: u32,
     remote: u32,
     data: &[u8],
-) -> Put
-    ensures value { result ≡ put_answer buf.old at gap identifier remote «data».now }
+) -> Result<usize, Refusal>
+    ensures value { coded result ≡ put_answer buf.old at gap identifier remote «data».now }
     ensures buf_after { buf.new ≡ put_bytes buf.old at gap identifier remote «data».now }
 {
     if !in_range(gap, identifier, remote, data.len()) {
-        return Put::Refused(laws::BAD_NUMBER);
+        return Err(Refusal::BadNumber);
     }
     let size = record_size(gap, identifier, remote, data);
     if buf.len() < at {
-        return Put::Refused(laws::TOO_SHORT);
+        return Err(Refusal::TooShort);
     }
     if buf.len() - at < size {
-        return Put::Refused(laws::TOO_SHORT);
+        return Err(Refusal::TooShort);
     }
     fill(&mut buf[at..], gap, identifier, remote, data);
-    Put::Wrote(size)
+    Ok(size)
 }

@@ -1,6 +1,6 @@
 -- Laws of reading records.
 --     found               what follows a number, where what was read of it is known
---     fits_at             a number that was read fits
+--     fits_at, past_fits  a number that was read fits
 --     gap_taken           a gap that was read on the quick way
 --     headed, head-room   a record by its gap and its word, and the room after them
 --     counted             a record by its count
@@ -9,6 +9,7 @@
 --     faults_are_placed   a fault has the offset of its byte for 16, and the input's length for 15
 --     leftover_is_short   what is not settled is shorter than the longest record
 --     old_recordings_read what the rule of older recordings finds, 16 aside, is found
+--     gap_first           before the end a record begins with its gap
 --     past_end, only_past_end    the end is found past the input's last byte, and nowhere else
 -- Assumes nothing.
 use mathlib.Core.Path.{◌≡◌, refl, ap, sym, subst, ◌∙◌}
@@ -22,14 +23,12 @@ use lib.Dec.{ltb, leb}
 use borrow.Author.Tests.{leb-true, leb-false, le-leb, lt-ltb, le-ltb, ltb-false}
 use Rattle.laws.proofs.Choices.{cond_elim}
 use Rattle.laws.proofs.Testing.{not_both}
-use Rattle.groups.specs.declared.scan.Found.{Found}
-use Rattle.groups.specs.declared.scan.Found.TheVariants.{Value, Ends, Bad}
-use Rattle.recording.specs.declared.records.Entry.{Entry}
-use Rattle.recording.specs.declared.records.Entry.TheVariants.{Record, End, Broken}
+use Rattle.std.specs.Prelude.{Some, Ok, Err}
+use Rattle.groups.specs.declared.scan.NumberFault.TheVariants.{Ends, Bad}
 use Rattle.laws.specs.Refusals.{cut_off, bad_number}
 use Rattle.recording.specs.Limits.{most_gap, gap_groups, most_word, word_groups, most_count, count_groups, longest, old_most_gap}
-use Rattle.groups.specs.Number.{groups_of, number_at}
-use Rattle.recording.specs.Record.{after, read_data, read_count, read_word, read_within, read_record, cut_off_at, bad_number_at}
+use Rattle.groups.specs.Number.{Found, groups_of, number_at}
+use Rattle.recording.specs.Record.{Entry, recorded, End, Broken, past, after, read_data, read_count, read_word, read_within, read_record, cut_off_at, bad_number_at}
 use Rattle.recording.specs.Statements.{Whole, RecordsAreWhole, FaultsArePlaced, LeftoverIsShort, OldRecordingsRead}
 use Rattle.recording.specs.Window.{settled}
 use Rattle.groups.proofs.Reading.{different, Fits, number_last, value_at_lem, bad_at_lem, ends_at}
@@ -42,20 +41,31 @@ pub found : (s : List ℕ) (at : ℕ) (rest : ℕ → ℕ → Entry) {read r n :
 found s at rest e f = ap (λ (n : Found). after s at n rest) (sym e ∙ f)
 
 -- a number that was read fits
-pub fits_at : (s : List ℕ) (at most left : ℕ) → groups_of most ≡ left → {r : Found} (v groups : ℕ) → r ≡ number_at s at most → r ≡ Value v groups → Fits left most at (length s) v groups
+pub fits_at : (s : List ℕ) (at most left : ℕ) → groups_of most ≡ left → {r : Found} (v groups : ℕ) → r ≡ number_at s at most → r ≡ Ok (v, groups) → Fits left most at (length s) v groups
 fits_at s at most left e {r} v groups read is =
     subst (λ (n : ℕ). Fits n most at (length s) v groups) e (value_at_lem (groups_of most) most at s r v groups read is)
 
--- a gap of `groups` groups on the quick way, where it found any
-pub gap_taken : (s : List ℕ) (at value groups last : ℕ) {next v n : ℕ} → (value ≤ most_gap) × (next - at ≡ groups) → (0 < n → (v ≡ value) × (n ≡ next) × (0 < last))
-    → (0 < last → Stands s at value groups) → 0 < n → Value v (n - at) ≡ number_at s at most_gap
-gap_taken s at value groups last {next} {v} {n} fits says stands some =
-    let w = says some in
-    let count : n - at ≡ groups = ap (λ (m : ℕ). m - at) w.1 ∙ fits.1 in
-    (λ i. Value (w.0 i) (count i)) ∙ stood s at most_gap value groups (omega arith) fits.0 (stands w.2)
+-- so does one that was read with the offset past it
+pub past_fits : (s : List ℕ) (at most v next : ℕ) → Ok (v, next) ≡ past s at (number_at s at most) → (v ≤ most) × (next ≤ length s)
+past_fits s at most v next = go (number_at s at most) refl
+  where
+    go : (r : Found) → r ≡ number_at s at most → Ok (v, next) ≡ past s at r → (v ≤ most) × (next ≤ length s)
+    go (Err Ends) e q = absurd (different cc)
+    go (Err (Bad p)) e q = absurd (different cc)
+    go (Ok (w, groups)) e q =
+        let fits = value_at_lem (groups_of most) most at s (Ok (w, groups)) w groups e refl in
+        let same : ◌≡◌ {A = ℕ × ℕ} (v, next) (w, at + groups) = cc in
+        (omega (arith, ap (λ (x : ℕ × ℕ). x.0) same, fits.small), omega (arith, ap (λ (x : ℕ × ℕ). x.1) same, fits.inside))
+
+-- a gap of `groups` groups on the quick way
+pub gap_taken : (s : List ℕ) (at value groups last : ℕ) {next v n : ℕ} → (value ≤ most_gap) × (next - at ≡ groups) → (0 < last → Stands s at value groups)
+    → (v ≡ value) × (n ≡ next) × (0 < last) → Ok (v, n - at) ≡ number_at s at most_gap
+gap_taken s at value groups last {next} {v} {n} fits stands says =
+    let count : n - at ≡ groups = ap (λ (m : ℕ). m - at) says.1 ∙ fits.1 in
+    (λ i. Ok (says.0 i, count i)) ∙ stood s at most_gap value groups (omega arith) fits.0 (stands says.2)
 
 -- where the gap and the word were read, the record is what its count gives, and after them there is room where the longest record has room
-module _ (s : List ℕ) (at gap word p next : ℕ) (first : Value gap (p - at) ≡ number_at s at most_gap) (second : Value word (next - p) ≡ number_at s p most_word) where
+module _ (s : List ℕ) (at gap word p next : ℕ) (first : Ok (gap, p - at) ≡ number_at s at most_gap) (second : Ok (word, next - p) ≡ number_at s p most_word) where
   gap_fits : Fits gap_groups most_gap at (length s) gap (p - at)
   gap_fits = fits_at s at most_gap gap_groups gap_groups_lem gap (p - at) first refl
 
@@ -77,29 +87,29 @@ module _ (s : List ℕ) (at gap word p next : ℕ) (first : Value gap (p - at) �
 
 -- where a count and the data after it have room, the record
 pub counted : (s : List ℕ) (gap identifier remote at count : ℕ) → at + (count_groups + most_count) ≤ length s → count ≡ get_or s at 0 → count ≤ most_count
-    → Record gap identifier remote (at + 1) count (at + 1 + count) ≡ read_count s gap identifier remote at
+    → recorded gap identifier remote (at + 1) count (at + 1 + count) ≡ read_count s gap identifier remote at
 counted s gap identifier remote at count room byte few =
     rw (le-leb count (length s - (at + 1)) (omega arith)) at
     (found s at (read_data s gap identifier remote) refl (number_last (groups_of most_count) most_count at s count (omega arith) (λ e. omega (arith, count_groups_lem)) byte few (omega arith)))
 
 after_elim : (P : Entry → Type 0) (s : List ℕ) (most left at : ℕ) → groups_of most ≡ left → (rest : ℕ → ℕ → Entry) → (length s - at ≤ left - 1 → P (cut_off_at (length s)))
-    → ((p : ℕ) → number_at s at most ≡ Bad p → at ≤ p → p < length s → P (bad_number_at p))
-    → ((v groups : ℕ) → number_at s at most ≡ Value v groups → Fits left most at (length s) v groups → P (rest v (at + groups)))
+    → ((p : ℕ) → number_at s at most ≡ Err (Bad p) → at ≤ p → p < length s → P (bad_number_at p))
+    → ((v groups : ℕ) → number_at s at most ≡ Ok (v, groups) → Fits left most at (length s) v groups → P (rest v (at + groups)))
     → P (after s at (number_at s at most) rest)
 after_elim P s most left at allowed rest cut bad value = go (number_at s at most) refl
   where
     go : (r : Found) → r ≡ number_at s at most → P (after s at r rest)
-    go Ends e = cut (omega (arith, ends_at (groups_of most) most at s e))
-    go (Bad p) e = let w = bad_at_lem (groups_of most) most at s p e in bad p (sym e) w.0 w.1
-    go (Value v groups) e = value v groups (sym e) (fits_at s at most left allowed v groups e refl)
+    go (Err Ends) e = cut (omega (arith, ends_at (groups_of most) most at s e))
+    go (Err (Bad p)) e = let w = bad_at_lem (groups_of most) most at s p e in bad p (sym e) w.0 w.1
+    go (Ok (v, groups)) e = value v groups (sym e) (fits_at s at most left allowed v groups e refl)
 
 -- an entry that was read at `at`, by its three numbers: what holds of every fault, and of a record whose data fit, holds of it;
 -- a bad byte at `at` itself is the gap's
 pub entry_elim : (P : Entry → Type 0) (s : List ℕ) (at : ℕ) → (length s ≤ at → P End) → (length s < at + longest → P (cut_off_at (length s)))
-    → ((p : ℕ) → (at ≡ p → number_at s at most_gap ≡ Bad p) → at ≤ p → p < length s → P (bad_number_at p))
-    → ((gap word count g₁ g₂ g₃ : ℕ) → number_at s at most_gap ≡ Value gap g₁ → number_at s (at + g₁) most_word ≡ Value word g₂ → number_at s (at + g₁ + g₂) most_count ≡ Value count g₃
+    → ((p : ℕ) → (at ≡ p → number_at s at most_gap ≡ Err (Bad p)) → at ≤ p → p < length s → P (bad_number_at p))
+    → ((gap word count g₁ g₂ g₃ : ℕ) → number_at s at most_gap ≡ Ok (gap, g₁) → number_at s (at + g₁) most_word ≡ Ok (word, g₂) → number_at s (at + g₁ + g₂) most_count ≡ Ok (count, g₃)
     → Fits gap_groups most_gap at (length s) gap g₁ → Fits word_groups most_word (at + g₁) (length s) word g₂ → Fits count_groups most_count (at + g₁ + g₂) (length s) count g₃
-    → count ≤ length s - (at + g₁ + g₂ + g₃) → P (Record gap (word / 2) (word % 2) (at + g₁ + g₂ + g₃) count (at + g₁ + g₂ + g₃ + count)))
+    → count ≤ length s - (at + g₁ + g₂ + g₃) → P (recorded gap (word / 2) (word % 2) (at + g₁ + g₂ + g₃) count (at + g₁ + g₂ + g₃ + count)))
     → P (read_record s at)
 unfolding read_within
 entry_elim P s at end cut bad found = cond_elim P (ltb at (length s)) _ _
@@ -113,7 +123,7 @@ entry_elim P s at end cut bad found = cond_elim P (ltb at (length s)) _ _
 
 -- what holds of an entry that was read at `at`
 abbrev Sound : List ℕ → ℕ → Entry → Type 0
-Sound s at (Record gap identifier remote start len next) = Whole (length s) at gap identifier remote start len next
+Sound s at (Ok (Some r)) = Whole (length s) at r.gap r.identifier r.remote r.start r.len r.next
 Sound s at End = Unit
 Sound s at (Broken refusal offset) = ((refusal ≡ cut_off) × (offset ≡ length s)) ⊎ ((refusal ≡ bad_number) × (at ≤ offset) × (offset < length s))
 
@@ -136,6 +146,11 @@ pub leftover_is_short : LeftoverIsShort
 leftover_is_short s at = entry_elim (λ (e : Entry). settled e ≡ false → length s < at + longest) s at (λ l _. omega arith) (λ l _. l)
     (λ p _ _ _ z. not_both (sym z)) (λ gap word count g₁ g₂ g₃ _ _ _ _ _ _ _ z. not_both (sym z))
 
+-- before the end a record begins with its gap
+pub gap_first : (s : List ℕ) (at : ℕ) → at < length s → after s at (number_at s at most_gap) (read_word s) ≡ read_record s at
+unfolding read_within
+gap_first s at h = rw (lt-ltb at (length s) h)
+
 pub past_end : (s : List ℕ) (at : ℕ) → length s ≤ at → read_record s at ≡ End
 unfolding read_within
 past_end s at h = rw (le-ltb at (length s) h)
@@ -148,9 +163,9 @@ only_past_end s at = entry_elim (λ (e : Entry). e ≡ End → length s ≤ at) 
 -- where the gap is not bad under a smaller greatest one, it is the same
 same_gap : (s : List ℕ) (at : ℕ) (r : Found) → number_at s at old_most_gap ≡ r → ((p : ℕ) → after s at r (read_word s) ≡ bad_number_at p → ⊥)
     → after s at (number_at s at most_gap) (read_word s) ≡ after s at r (read_word s)
-same_gap s at (Bad p) e other = absurd (other p refl)
-same_gap s at Ends e other = ap (λ (n : Found). after s at n (read_word s)) (more_is_allowed s at old_most_gap most_gap (omega arith) (ap is_bad e) ∙ e)
-same_gap s at (Value v groups) e other = ap (λ (n : Found). after s at n (read_word s)) (more_is_allowed s at old_most_gap most_gap (omega arith) (ap is_bad e) ∙ e)
+same_gap s at (Err (Bad p)) e other = absurd (other p refl)
+same_gap s at (Err Ends) e other = ap (λ (n : Found). after s at n (read_word s)) (more_is_allowed s at old_most_gap most_gap (omega arith) (ap is_bad e) ∙ e)
+same_gap s at (Ok (v, groups)) e other = ap (λ (n : Found). after s at n (read_word s)) (more_is_allowed s at old_most_gap most_gap (omega arith) (ap is_bad e) ∙ e)
 
 pub old_recordings_read : OldRecordingsRead
 unfolding read_within

@@ -14,13 +14,11 @@ use borrow.Author.Tests.{lt-ltb, le-ltb, le-leb, leb-true, leb-false, ltb-true, 
 use Rattle.laws.specs.Limits.{AllBytes}
 use Rattle.laws.proofs.Choices.{cond_elim}
 use Rattle.laws.proofs.Testing.{not_both}
-use Rattle.groups.specs.declared.scan.Found.{Found}
-use Rattle.groups.specs.declared.scan.Found.TheVariants.{Value, Ends, Bad}
-use Rattle.recording.specs.declared.records.Entry.{Entry}
-use Rattle.recording.specs.declared.records.Entry.TheVariants.{Record, End, Broken}
+use Rattle.std.specs.Prelude.{Some, Ok, Err}
+use Rattle.groups.specs.declared.scan.NumberFault.TheVariants.{Ends, Bad}
 use Rattle.recording.specs.Limits.{most_gap, most_word, most_count}
-use Rattle.groups.specs.Number.{groups_of, read_number, number_at}
-use Rattle.recording.specs.Record.{after, read_data, read_count, read_word, read_within, read_record, cut_off_at, bad_number_at}
+use Rattle.groups.specs.Number.{Found, groups_of, read_number, number_at}
+use Rattle.recording.specs.Record.{Entry, End, Broken, after, read_data, read_count, read_word, read_within, read_record, cut_off_at, bad_number_at}
 use Rattle.recording.specs.Window.{settled, is_record}
 use Rattle.recording.specs.Statements.{FaultIsCertain, MendableIsCut}
 use Rattle.groups.proofs.Reading.{different, bad_at_lem}
@@ -31,7 +29,7 @@ use Rattle.recording.proofs.Entries.{entry_elim}
 
 -- an entry, where only the bytes before the offset `end` are read
 abbrev cut_entry : ℕ → Entry → Entry
-cut_entry end (Record gap identifier remote start len next) = cond (ltb end next) (cut_off_at end) (Record gap identifier remote start len next)
+cut_entry end (Ok (Some r)) = cond (ltb end r.next) (cut_off_at end) (Ok (Some r))
 cut_entry end End = End
 cut_entry end (Broken refusal offset) = cond (ltb end (offset + 1)) (cut_off_at end) (Broken refusal offset)
 
@@ -62,18 +60,18 @@ module _ (s t : List ℕ) where
   }
     where
       inside : (at : ℕ) (r : Found) → r ≡ number_at w at most → after s at (cut_number at end r) rest ≡ cut_entry end (after w at r rest')
-      inside at Ends e = sym cut_off_cut
-      inside at (Bad p) e = sym (cond_moves (λ (n : Found). after s at n rest) (ltb end (p + 1)) Ends (Bad p) _ _ refl refl)
-      inside at (Value v groups) e = go (ltb end (at + groups)) refl
+      inside at (Err Ends) e = sym cut_off_cut
+      inside at (Err (Bad p)) e = sym (cond_moves (λ (n : Found). after s at n rest) (ltb end (p + 1)) (Err Ends) (Err (Bad p)) _ _ refl refl)
+      inside at (Ok (v, groups)) e = go (ltb end (at + groups)) refl
         where
-          go : (b : Bool) → ltb end (at + groups) ≡ b → after s at (cond b Ends (Value v groups)) rest ≡ cut_entry end (rest' v (at + groups))
+          go : (b : Bool) → ltb end (at + groups) ≡ b → after s at (cond b (Err Ends) (Ok (v, groups))) rest ≡ cut_entry end (rest' v (at + groups))
           go true q = sym ((f v).beyond (at + groups) (ltb-true _ _ q))
           go false q = (f v).within (at + groups) (ltb-false _ _ q)
 
       outside : (at : ℕ) → end < at → (r : Found) → r ≡ number_at w at most → cut_entry end (after w at r rest') ≡ cut_off_at end
-      outside at h Ends e = cut_off_cut
-      outside at h (Bad p) e = rw (lt-ltb end (p + 1) (omega (arith, (bad_at_lem (groups_of most) most at w p e).0)))
-      outside at h (Value v groups) e = (f v).beyond (at + groups) (omega arith)
+      outside at h (Err Ends) e = cut_off_cut
+      outside at h (Err (Bad p)) e = rw (lt-ltb end (p + 1) (omega (arith, (bad_at_lem (groups_of most) most at w p e).0)))
+      outside at h (Ok (v, groups)) e = (f v).beyond (at + groups) (omega arith)
 
   data_cuts : (gap identifier remote count : ℕ) → Cuts (read_data s gap identifier remote count) (read_data w gap identifier remote count)
   data_cuts gap identifier remote count = record {
@@ -103,13 +101,13 @@ mendable_is_cut s t at inside none some = go (read_record (s ++ t) at) refl
     go : (e : Entry) → read_record (s ++ t) at ≡ e → read_record s at ≡ cut_off_at (length s)
     go End e = not_both (sym (ap is_record e) ∙ some)
     go (Broken refusal offset) e = not_both (sym (ap is_record e) ∙ some)
-    go (Record gap identifier remote start len next) e =
-        let first : read_record s at ≡ cond (ltb (length s) next) (cut_off_at (length s)) (Record gap identifier remote start len next) = first_part s t at inside ∙ ap (cut_entry (length s)) e in
-        cond_elim (λ (r : Entry). read_record s at ≡ r → read_record s at ≡ cut_off_at (length s)) (ltb (length s) next) _ _ (λ _ q. q) (λ _ q. not_both (sym none ∙ ap is_record q)) first
+    go (Ok (Some r)) e =
+        let first : read_record s at ≡ cond (ltb (length s) r.next) (cut_off_at (length s)) (Ok (Some r)) = first_part s t at inside ∙ ap (cut_entry (length s)) e in
+        cond_elim (λ (e : Entry). read_record s at ≡ e → read_record s at ≡ cut_off_at (length s)) (ltb (length s) r.next) _ _ (λ _ q. q) (λ _ q. not_both (sym none ∙ ap is_record q)) first
 
 module _ (s : List ℕ) (bytes : AllBytes s) (at p : ℕ) where
   -- so no bad byte is a record's first
-  gap_past : (q : ℕ) → (at ≡ q → number_at s at most_gap ≡ Bad q) → at ≤ q → q < length s → at < q
+  gap_past : (q : ℕ) → (at ≡ q → number_at s at most_gap ≡ Err (Bad q)) → at ≤ q → q < length s → at < q
   gap_past q first h l =
       cond_elim (λ (b : Bool). at < q) (ltb at q) true false (λ e. ltb-true at q e)
       (λ e. let here : q ≤ at = ltb-false at q e in
@@ -117,9 +115,14 @@ module _ (s : List ℕ) (bytes : AllBytes s) (at p : ℕ) where
       ((λ i. read_number (sym gap_groups_lem i) most_gap at (sym (drop-cons s at 0 (omega arith)) i)) ∙ first (omega arith))
       (number_past 3 most_gap at (get_or s at 0) (drop (suc at) s) (omega (arith, bytes at))))
 
+  -- a fault's refusal number and offset
+  abbrev fault_in : Entry → ℕ × ℕ
+  fault_in (Ok r) = (0, 0)
+  fault_in (Err fault) = fault
+
   bad_past : read_record s at ≡ bad_number_at p → (at < p) × (p < length s)
-  bad_past = entry_elim (λ (e : Entry). e ≡ bad_number_at p → (at < p) × (p < length s)) s at (λ _ e. absurd (different cc)) (λ _ e. absurd (different cc))
-      (λ q first l n e. let same : q ≡ p = cc in let past = gap_past q first l n in (omega arith, omega arith))
+  bad_past = entry_elim (λ (e : Entry). e ≡ bad_number_at p → (at < p) × (p < length s)) s at (λ _ e. absurd (different cc)) (λ _ e. absurd (different (omega (arith, ap (λ (x : Entry). (fault_in x).0) e))))
+      (λ q first l n e. let same : q ≡ p = ap (λ (x : Entry). (fault_in x).1) e in let past = gap_past q first l n in (omega arith, omega arith))
       (λ gap word count g₁ g₂ g₃ _ _ _ _ _ _ _ e. absurd (different cc))
 
   -- the first k bytes of the input

@@ -13,13 +13,11 @@ use lib.Dec.{ltb}
 use borrow.Author.Tests.{lt-ltb, le-leb, ltb-true}
 use Rattle.laws.specs.Limits.{AllBytes}
 use Rattle.laws.proofs.Testing.{not_both}
-use Rattle.groups.specs.declared.scan.Found.{Found}
-use Rattle.groups.specs.declared.scan.Found.TheVariants.{Value, Ends, Bad}
-use Rattle.recording.specs.declared.records.Entry.{Entry}
-use Rattle.recording.specs.declared.records.Entry.TheVariants.{End}
+use Rattle.std.specs.Prelude.{Ok, Err}
+use Rattle.groups.specs.declared.scan.NumberFault.TheVariants.{Ends, Bad}
 use Rattle.recording.specs.Limits.{most_gap, most_word, most_count, longest}
-use Rattle.groups.specs.Number.{groups_of, read_number, number_at}
-use Rattle.recording.specs.Record.{after, read_data, read_count, read_word, read_within, read_record, cut_off_at}
+use Rattle.groups.specs.Number.{Found, groups_of, read_number, number_at}
+use Rattle.recording.specs.Record.{Entry, End, after, read_data, read_count, read_word, read_within, read_record, cut_off_at}
 use Rattle.recording.specs.Window.{settled, is_record}
 use Rattle.recording.specs.Statements.{CutCanBeMended}
 use Rattle.groups.proofs.Reading.{different, number_last, value_at_lem}
@@ -44,7 +42,7 @@ module _ (s : List ℕ) where
       sym (ap (λ (n : ℕ). get_or w n 0) on ∙ get_or-append-add s ones k 0 ∙ get_or-replicate longest k 1 0 (omega arith))
 
   -- after s every number is 1
-  one_at : (most i : ℕ) → 0 < groups_of most → 0 < most → length s ≤ i → i < length s + longest → number_at w i most ≡ Value 1 1
+  one_at : (most i : ℕ) → 0 < groups_of most → 0 < most → length s ≤ i → i < length s + longest → number_at w i most ≡ Ok (1, 1)
   one_at most i some large h l = sym (number_last (groups_of most) most i w 1 (omega (arith, long)) (λ e. omega arith) (one_byte i h l) large (omega arith))
 
   data_whole : (gap identifier remote count start : ℕ) → start + count ≤ length s + longest → is_record (read_data w gap identifier remote count start) ≡ true
@@ -68,21 +66,21 @@ module _ (s : List ℕ) where
   after_mends most at rest rest' some large inside ended follows = go (number_at s at most) refl
     where
       mended : (n : ℕ) → at + n ≡ length s + 1 → (r : Found) → r ≡ number_at w at most → Ended n r → is_record (after w at r rest') ≡ true
-      mended n past Ends e h = absurd h
-      mended n past (Bad p) e h = absurd h
-      mended n past (Value v groups) e h =
+      mended n past (Err Ends) e h = absurd h
+      mended n past (Err (Bad p)) e h = absurd h
+      mended n past (Ok (v, groups)) e h =
           let on : at + groups ≡ length s + 1 = omega (arith, h.1) in
-          ap (λ (n : ℕ). is_record (rest' v n)) on ∙ ended v (value_at_lem (groups_of most) most at w (Value v groups) v groups e refl).small
+          ap (λ (n : ℕ). is_record (rest' v n)) on ∙ ended v (value_at_lem (groups_of most) most at w (Ok (v, groups)) v groups e refl).small
 
       go : (r : Found) → number_at s at most ≡ r → settled (after s at r rest) ≡ false → is_record (after w at (number_at w at most) rest') ≡ true
-      go Ends e z =
+      go (Err Ends) e z =
           mended (suc (length (drop at s))) (omega (arith, length-drop at s)) (number_at w at most) refl
           (subst (λ (bs : List ℕ). Ended (suc (length (drop at s))) (read_number (groups_of most) most at bs)) (sym (drop-append-le at s ones inside))
           (number_mends (groups_of most) most at (drop at s) (replicate 15 1) some large e))
-      go (Bad p) e z = not_both (sym z)
-      go (Value v groups) e z =
-          let fits = value_at_lem (groups_of most) most at s (Value v groups) v groups (sym e) refl in
-          ap (λ (n : Found). is_record (after w at n rest')) (number_stays s ones (groups_of most) most at (Value v groups) inside e (λ no. different cc)) ∙ follows v (at + groups) fits.small fits.inside z
+      go (Err (Bad p)) e z = not_both (sym z)
+      go (Ok (v, groups)) e z =
+          let fits = value_at_lem (groups_of most) most at s (Ok (v, groups)) v groups (sym e) refl in
+          ap (λ (n : Found). is_record (after w at n rest')) (number_stays s ones (groups_of most) most at (Ok (v, groups)) inside e (λ no. different cc)) ∙ follows v (at + groups) fits.small fits.inside z
 
   mends : (at : ℕ) (b : Bool) → ltb at (length s) ≡ b → (n : ℕ) → cond b (after s at (number_at s at most_gap) (read_word s)) End ≡ cut_off_at n → is_record (read_record w at) ≡ true
   unfolding read_within

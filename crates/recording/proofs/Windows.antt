@@ -12,13 +12,11 @@ use lib.Seq.{drop-append-add}
 use lib.Dec.{ltb, leb}
 use borrow.Author.Tests.{lt-ltb, le-leb, ltb-true, leb-true}
 use Rattle.laws.proofs.Choices.{same_test}
-use Rattle.groups.specs.declared.scan.Found.{Found}
-use Rattle.groups.specs.declared.scan.Found.TheVariants.{Value, Ends, Bad}
-use Rattle.recording.specs.declared.records.Entry.{Entry}
-use Rattle.recording.specs.declared.records.Entry.TheVariants.{Record, End}
+use Rattle.std.specs.Prelude.{Ok, Err}
+use Rattle.groups.specs.declared.scan.NumberFault.TheVariants.{Ends, Bad}
 use Rattle.recording.specs.Limits.{most_gap, most_word, most_count}
-use Rattle.groups.specs.Number.{groups_of, read_number, number_at}
-use Rattle.recording.specs.Record.{after, read_data, read_count, read_word, read_within, read_record, cut_off_at}
+use Rattle.groups.specs.Number.{Found, groups_of, read_number, number_at}
+use Rattle.recording.specs.Record.{Entry, recorded, End, after, read_data, read_count, read_word, read_within, read_record, cut_off_at}
 use Rattle.recording.specs.Window.{settled, further}
 use Rattle.recording.specs.Statements.{WindowSettles, WindowMoves}
 use Rattle.groups.proofs.Reading.{different, value_at_lem}
@@ -31,22 +29,22 @@ module _ (s t : List ℕ) where
       → settled (after s at (number_at s at most) rest) ≡ true → after (s ++ t) at (number_at (s ++ t) at most) rest' ≡ after s at (number_at s at most) rest
   after_settles most at rest rest' inside f = go (number_at s at most) refl
     where
-      stays : (r : Found) → number_at s at most ≡ r → (r ≡ Ends → ⊥) → number_at (s ++ t) at most ≡ r
+      stays : (r : Found) → number_at s at most ≡ r → (r ≡ Err Ends → ⊥) → number_at (s ++ t) at most ≡ r
       stays r = number_stays s t (groups_of most) most at r inside
 
       go : (r : Found) → number_at s at most ≡ r → settled (after s at r rest) ≡ true → after (s ++ t) at (number_at (s ++ t) at most) rest' ≡ after s at r rest
-      go Ends e z = absurd (different cc)
-      go (Bad p) e z = ap (λ (n : Found). after (s ++ t) at n rest') (stays (Bad p) e (λ no. different cc))
-      go (Value v groups) e z =
-          ap (λ (n : Found). after (s ++ t) at n rest') (stays (Value v groups) e (λ no. different cc))
-          ∙ f v (at + groups) (value_at_lem (groups_of most) most at s (Value v groups) v groups (sym e) refl).inside z
+      go (Err Ends) e z = absurd (different cc)
+      go (Err (Bad p)) e z = ap (λ (n : Found). after (s ++ t) at n rest') (stays (Err (Bad p)) e (λ no. different cc))
+      go (Ok (v, groups)) e z =
+          ap (λ (n : Found). after (s ++ t) at n rest') (stays (Ok (v, groups)) e (λ no. different cc))
+          ∙ f v (at + groups) (value_at_lem (groups_of most) most at s (Ok (v, groups)) v groups (sym e) refl).inside z
 
   data_settles : (gap identifier remote count start : ℕ) → settled (read_data s gap identifier remote count start) ≡ true
       → read_data (s ++ t) gap identifier remote count start ≡ read_data s gap identifier remote count start
   data_settles gap identifier remote count start = go (leb count (length s - start)) refl
     where
-      go : (b : Bool) → leb count (length s - start) ≡ b → settled (cond b (Record gap identifier remote start count (start + count)) (cut_off_at (length s))) ≡ true
-          → read_data (s ++ t) gap identifier remote count start ≡ cond b (Record gap identifier remote start count (start + count)) (cut_off_at (length s))
+      go : (b : Bool) → leb count (length s - start) ≡ b → settled (cond b (recorded gap identifier remote start count (start + count)) (cut_off_at (length s))) ≡ true
+          → read_data (s ++ t) gap identifier remote count start ≡ cond b (recorded gap identifier remote start count (start + count)) (cut_off_at (length s))
       go true e z =
           let l : count ≤ length s - start = leb-true _ _ e in
           rw (le-leb count (length (s ++ t) - start) (omega (arith, length-append s t)))
@@ -83,9 +81,9 @@ module _ (p s : List ℕ) where
       ∙ by (number_at s at most)
     where
       by : (r : Found) → after (p ++ s) (k + at) (moved k r) rest' ≡ further k (after s at r rest)
-      by Ends = ap cut_off_at long
-      by (Bad q) = refl
-      by (Value v groups) =
+      by (Err Ends) = ap cut_off_at long
+      by (Err (Bad q)) = refl
+      by (Ok (v, groups)) =
           let on : k + at + groups ≡ k + (at + groups) = omega arith in
           ap (rest' v) on ∙ f v (at + groups)
 
@@ -93,9 +91,9 @@ module _ (p s : List ℕ) where
   data_moves gap identifier remote count start =
       let room : length (p ++ s) - (k + start) ≡ length s - start = omega (arith, long) in
       let on : k + start + count ≡ k + (start + count) = omega arith in
-      ap (λ (n : ℕ). cond (leb count n) (Record gap identifier remote (k + start) count (k + start + count)) (cut_off_at (length (p ++ s)))) room
-      ∙ cond_moves (further k) (leb count (length s - start)) (Record gap identifier remote start count (start + count)) (cut_off_at (length s)) _ _
-      (ap (Record gap identifier remote (k + start) count) on) (ap cut_off_at long)
+      ap (λ (n : ℕ). cond (leb count n) (recorded gap identifier remote (k + start) count (k + start + count)) (cut_off_at (length (p ++ s)))) room
+      ∙ cond_moves (further k) (leb count (length s - start)) (recorded gap identifier remote start count (start + count)) (cut_off_at (length s)) _ _
+      (ap (recorded gap identifier remote (k + start) count) on) (ap cut_off_at long)
 
 pub window_moves : WindowMoves
 unfolding read_within

@@ -1,10 +1,9 @@
 -- What holds of recordings that are read; proofs/ proves each statement.
 use Rattle.std.specs.Prelude.{ℕ, ◌+◌, ◌≤◌, ◌<◌, ◌≡◌, List, ◌++◌, map, true, false, ◌⊎◌, length, take}
-use Rattle.recording.specs.declared.records.Entry.TheVariants.{Record, Broken}
 use Rattle.laws.specs.Refusals.{cut_off, bad_number}
 use Rattle.laws.specs.Limits.{AllBytes}
 use Rattle.recording.specs.Limits.{longest, old_most_gap, in_range}
-use Rattle.recording.specs.Record.{read_within, read_record}
+use Rattle.recording.specs.Record.{recorded, Broken, read_within, read_record}
 use Rattle.recording.specs.Window.{settled, is_record, further}
 use Rattle.recording.specs.Examples.{examples, Row}
 
@@ -18,7 +17,7 @@ pub record Whole (n at gap identifier remote start len next : ℕ) : Type 0 wher
 -- every record that is read is whole
 abbrev pub RecordsAreWhole : Type 0
 RecordsAreWhole =
-    (s : List ℕ) (at gap identifier remote start len next : ℕ) → read_record s at ≡ Record gap identifier remote start len next → Whole (length s) at gap identifier remote start len next
+    (s : List ℕ) (at gap identifier remote start len next : ℕ) → read_record s at ≡ recorded gap identifier remote start len next → Whole (length s) at gap identifier remote start len next
 
 -- a fault has the offset of its byte for 16, and the input's length for 15
 abbrev pub FaultsArePlaced : Type 0

@@ -5,4 +5,4 @@ mod limits;
 mod records;
 
 pub use limits::{LONGEST, MOST_COUNT, MOST_GAP, MOST_REMOTE, MOST_WORD};
-pub use records::{Entry, read_any};
+pub use records::{Fault, Record, read_any};

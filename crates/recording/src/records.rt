@@ -1,111 +1,96 @@
 // The reader of records: gap, word (2 × identifier + remote flag), count, data.
-ghost use Rattle.std.specs.Prelude.{◌≡◌, ◌<◌, length};
-ghost use Rattle.recording.specs.Record.{cut_off_at, bad_number_at, read_count, read_word, read_record};
+ghost use Rattle.std.specs.Prelude.{◌≡◌, length};
+ghost use Rattle.laws.specs.Refusals.{cut_off};
+ghost use Rattle.groups.specs.Number.{number_at};
+ghost use Rattle.recording.specs.Record.{told_fault, told, past, read_count, read_word, read_record};
 
 use crate::limits::{MOST_COUNT, MOST_GAP, MOST_WORD};
-use groups::Found;
+use groups::NumberFault;
+use laws::Refusal;
 use numbers::number;
 
-// What reading at an offset finds: a record, whose data are the `len` bytes from `start`, with `next` past it; the end;
-// or a fault, with its refusal number and its offset.
-#[derive(Clone, Copy)]
-pub enum Entry {
-    Record {
-        gap: u64,
-        identifier: u32,
-        remote: u32,
-        start: usize,
-        len: usize,
-        next: usize,
-    },
-    End,
-    Broken {
-        refusal: u16,
-        offset: usize,
-    },
+// A record that was read: its data are the `len` bytes from `start`, and `next` is past it.
+#[derive(Clone, Copy, Debug, PartialEq, Eq)]
+pub struct Record {
+    pub gap: u64,
+    pub identifier: u32,
+    pub remote: u32,
+    pub start: usize,
+    pub len: usize,
+    pub next: usize,
 }
 
-// The input, of `end` bytes, ends inside a record.
-fn cut_off(end: usize) -> Entry
-    ensures { result ≡ cut_off_at end }
+// Why no record is read, and the offset where that shows.
+#[derive(Clone, Copy, Debug, PartialEq, Eq)]
+pub struct Fault {
+    pub refusal: Refusal,
+    pub offset: usize,
+}
+
+// The input ends inside a record.
+fn cut_off(s: &[u8]) -> Fault
+    ensures { told_fault result ≡ (cut_off, length s.now) }
 {
-    Entry::Broken {
-        refusal: laws::CUT_OFF,
-        offset: end,
+    Fault {
+        refusal: Refusal::CutOff,
+        offset: s.len(),
     }
 }
 
-// The byte at `offset` is none that a number can have there.
-fn bad_number(offset: usize) -> Entry
-    ensures { result ≡ bad_number_at offset }
+// The number at `at`, of at most `most`, and the offset past it.
+fn number_and_next(s: &[u8], at: usize, most: u64) -> Result<(u64, usize), Fault>
+    ensures { told result ≡ past s.now at (number_at s.now at most) }
 {
-    Entry::Broken {
-        refusal: laws::BAD_NUMBER,
-        offset,
+    match number(s, at, most) {
+        Ok((value, groups)) => Ok((value, at + groups)),
+        Err(NumberFault::Ends) => Err(cut_off(s)),
+        Err(NumberFault::Bad(offset)) => Err(Fault {
+            refusal: Refusal::BadNumber,
+            offset,
+        }),
     }
 }
 
 // The count and the data, at `at`.
-fn read_count(s: &[u8], gap: u64, identifier: u32, remote: u32, at: usize) -> Entry
-    ensures { result ≡ read_count s.now gap identifier remote at }
+fn read_count(
+    s: &[u8],
+    gap: u64,
+    identifier: u32,
+    remote: u32,
+    at: usize,
+) -> Result<Option<Record>, Fault>
+    ensures { told result ≡ read_count s.now gap identifier remote at }
 {
-    match number(s, at, MOST_COUNT) {
-        Found::Value(count, groups) => {
-            let start = at + groups;
-            let len = count as usize;
-            if len <= s.len() - start {
-                Entry::Record {
-                    gap,
-                    identifier,
-                    remote,
-                    start,
-                    len,
-                    next: start + len,
-                }
-            } else {
-                cut_off(s.len())
-            }
-        }
-        Found::Ends => cut_off(s.len()),
-        Found::Bad(p) => bad_number(p),
+    let (count, start) = number_and_next(s, at, MOST_COUNT)?;
+    let len = count as usize;
+    if s.len() - start < len {
+        return Err(cut_off(s));
     }
+    Ok(Some(Record {
+        gap,
+        identifier,
+        remote,
+        start,
+        len,
+        next: start + len,
+    }))
 }
 
 // The word, and what follows it, at `at`.
-fn read_word(s: &[u8], gap: u64, at: usize) -> Entry
-    ensures { result ≡ read_word s.now gap at }
+fn read_word(s: &[u8], gap: u64, at: usize) -> Result<Option<Record>, Fault>
+    ensures { told result ≡ read_word s.now gap at }
 {
-    match number(s, at, MOST_WORD) {
-        Found::Value(word, groups) => read_count(
-            s,
-            gap,
-            (word / 2) as u32,
-            (word % 2) as u32,
-            at + groups,
-        ),
-        Found::Ends => cut_off(s.len()),
-        Found::Bad(p) => bad_number(p),
-    }
+    let (word, next) = number_and_next(s, at, MOST_WORD)?;
+    read_count(s, gap, (word / 2) as u32, (word % 2) as u32, next)
 }
 
-// The record at `at`, every number by its groups and every end tested: the general way.
-fn read_edge(s: &[u8], at: usize) -> Entry
-    requires { at < length s.now }
-    ensures { result ≡ read_record s.now at }
-{
-    match number(s, at, MOST_GAP) {
-        Found::Value(gap, groups) => read_word(s, gap, at + groups),
-        Found::Ends => cut_off(s.len()),
-        Found::Bad(p) => bad_number(p),
-    }
-}
-
-// The record at `at`, wherever it ends, or the end: whether there is any is tested only here.
-pub fn read_any(s: &[u8], at: usize) -> Entry
-    ensures { result ≡ read_record s.now at }
+// What stands at `at`, wherever it ends: a record, or none at the input's end. Every number is read by its groups, and every end is tested.
+pub fn read_any(s: &[u8], at: usize) -> Result<Option<Record>, Fault>
+    ensures { told result ≡ read_record s.now at }
 {
     if s.len() <= at {
-        return Entry::End;
+        return Ok(None);
     }
-    read_edge(s, at)
+    let (gap, next) = number_and_next(s, at, MOST_GAP)?;
+    read_word(s, gap, next)
 }

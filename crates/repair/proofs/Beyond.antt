@@ -1,5 +1,6 @@
 -- The byte of a 9 is the first byte beyond repair.
 -- Assumes nothing.
+use Rattle.std.specs.Prelude.{Ok, Err}
 use Prim.Native.Nat.{ℕ, ◌+◌, ◌*◌, ◌/◌, ◌%◌, ◌-◌, ◌<◌}
 use native.Mathlib.Omega.{arith}
 use mathlib.Core.Path.{◌≡◌, refl, sym, ap, subst, ◌∙◌}
@@ -23,7 +24,7 @@ use Rattle.judging.specs.Reading.{own_type, reading, reading_number}
 use Rattle.kinds.proofs.Listed.{listed_module, module_some, module_handed}
 use Rattle.codec.specs.Encoding.{high_of, low_of, seconds_of, encode}
 use Rattle.codec.specs.Statements.{OfRow}
-use Rattle.codec.specs.Writing.{handed_refusal, type_fits, write_refusal, command_frame, writing, command_written, written_as, writing_numbers}
+use Rattle.codec.specs.Writing.{handed_refusal, type_fits, write_refusal, command_frame, writing, command_written, written_as, writing_numbers, Writing}
 use Rattle.codec.proofs.Everything.{made}
 use Rattle.frame.specs.declared.identifiers.Address.{Address}
 use Rattle.frame.specs.declared.messages.Location.{Location}
@@ -32,9 +33,6 @@ use Rattle.frame.specs.declared.messages.Glow.TheVariants.{Off, On, Slow, Fast, 
 use Rattle.frame.specs.declared.messages.Command.{Command}
 use Rattle.frame.specs.declared.messages.Command.TheVariants.{TypeLong, TypeShort, Buttons, CellTold, BlockTold, CellAsked, BlockAsked, DumpAsked, CellSet, BlockSet, Errors, ErrorsAsked, NameOne, NameTwo, NameThree, NameAsked, StatusAsked, InputStatus, LedsAll, Leds, BlindStatus, BlindStop, BlindUp, BlindDown}
 use Rattle.frame.specs.declared.messages.Message.TheVariants.{Tells}
-use Rattle.frame.specs.declared.messages.Reading.TheVariants as reader
-use Rattle.codec.specs.declared.writer.Writing.{Writing}
-use Rattle.codec.specs.declared.writer.Writing.TheVariants as writer
 use Rattle.repair.specs.Allowed.{lines_for, allowed}
 use Rattle.repair.specs.Beyond.{BeyondRepair, Answered, FirstBeyondRepair, parts, frame_or_time}
 use Rattle.repair.proofs.Mending.{first_unmet, rising, Leaves, Each, bound_each, met_all, stops, stops_in, no_choice, mended_from, mended, mended_agrees, mended_length, mended_bytes}
@@ -187,12 +185,12 @@ module _ (kind : ℕ) (a : Address) (m : Command) (ha : a.0 < 256) (small : AllB
   writes =
       let n : handed_refusal kind (write_refusal (own_type kind (data_of s)) (data_of s) m) ≡ field_refusal (fault kind m) =
       rw (module_handed kind known, own, fits, module_some kind known, row.listed) in
-      refusal-of (λ (w : Writing). refusal_in (writing_numbers w)) writer.Refused (writer.Written (command_frame (own_type kind (data_of s)) a (data_of s))) (λ n. refl) refl
+      refusal-of (λ (w : Writing). refusal_in (writing_numbers w)) Err (Ok (command_frame (own_type kind (data_of s)) a (data_of s))) (λ n. refl) refl
       (handed_refusal kind (write_refusal (own_type kind (data_of s)) (data_of s) m))
       ∙ n
 
   reads : reading_number (reading kind (identifier_of (row_for kind (byte 1 s)).1 a) 0 s) ≡ field_refusal (fault kind (decode s))
-  reads = ap reading_number (made kind a s ha small row) ∙ refusal-of reading_number reader.Refused (reader.Read a (Tells (decode s))) (λ n. refl) refl _
+  reads = ap reading_number (made kind a s ha small row) ∙ refusal-of reading_number Err (Ok (a, Tells (decode s))) (λ n. refl) refl _
 
   written : (parts m).place < 65536 → refusal_in (writing_numbers (writing kind a (Tells m))) ≡ frame_or_time kind a m
   written h =

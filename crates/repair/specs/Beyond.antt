@@ -1,5 +1,5 @@
 -- What the byte of a 9 means, for the reader and for the writer. The proofs are in proofs/Beyond.antt.
-use Rattle.std.specs.Prelude.{ℕ, ◌-◌, ◌≤◌, ◌<◌, ◌≡◌, List, true, false, cond, length, take}
+use Rattle.std.specs.Prelude.{ℕ, ◌-◌, ◌≤◌, ◌<◌, ◌≡◌, List, true, false, cond, length, take, Ok, Err}
 use Rattle.laws.specs.Limits.{AllBytes}
 use Rattle.laws.specs.Refusals.{bad_field, code_at}
 use Rattle.laws.specs.Tests.{unless}
@@ -19,7 +19,6 @@ use Rattle.frame.specs.declared.messages.Time.TheVariants.{DipSwitch}
 use Rattle.frame.specs.declared.messages.Command.{Command}
 use Rattle.frame.specs.declared.messages.Command.TheVariants.{TypeLong, TypeShort, Buttons, CellTold, BlockTold, CellAsked, BlockAsked, DumpAsked, CellSet, BlockSet, Errors, ErrorsAsked, NameOne, NameTwo, NameThree, NameAsked, StatusAsked, InputStatus, LedsAll, Leds, BlindStatus, BlindStop, BlindUp, BlindDown}
 use Rattle.frame.specs.declared.messages.Message.TheVariants.{Tells}
-use Rattle.frame.specs.declared.messages.Reading.TheVariants.{Read, Refused}
 use Rattle.repair.specs.Allowed.{allowed}
 
 -- byte k, behind the command: whatever the later bytes are, the fields are not allowed; and with this byte and the later ones chosen
@@ -37,10 +36,10 @@ pub record BeyondRepair (kind : ℕ) (s : List ℕ) (k : ℕ) : Type 0 where
 -- a frame of the row, at the address, is read where its fields are allowed, and else is 9 with the first byte that is beyond repair
 pub record Answered (kind c : ℕ) (a : Address) (s : List ℕ) : Type 0 where
   pub accepted :
-      allowed kind s ≡ true → (m : Command) × (reading kind (identifier_of (row_for kind c).1 a) 0 s ≡ Read a (Tells m))
+      allowed kind s ≡ true → (m : Command) × (reading kind (identifier_of (row_for kind c).1 a) 0 s ≡ Ok (a, Tells m))
   pub refused :
       allowed kind s ≡ false
-      → (k : ℕ) × BeyondRepair kind s k × (reading kind (identifier_of (row_for kind c).1 a) 0 s ≡ Refused (code_at bad_field k))
+      → (k : ℕ) × BeyondRepair kind s k × (reading kind (identifier_of (row_for kind c).1 a) 0 s ≡ Err (code_at bad_field k))
 
 -- the location and the time that a message holds, where it holds one
 pub record Parts : Type 0 where

@@ -1,9 +1,8 @@
 -- The turns over the parts of an input are the replay over the whole of it.
 -- Assumes nothing.
 use Rattle.std.proofs.Common.{◌≡◌, ℕ, ◌+◌, ◌≤◌, List, [], ◌∷◌, ◌++◌, length, take, drop, sym, refl, ap, ◌∙◌, append_assoc, arith, length-append, take_at}
-use Rattle.replay.specs.declared.window.Stream.{Stream}
 use Rattle.replay.specs.Replay.{Hearing, Run}
-use Rattle.replay.specs.Window.{kept}
+use Rattle.replay.specs.Window.{kept, kept_fault, Stream}
 use Rattle.replay.specs.Parts.{Parts, no_parts, one_part, all_parts, stream_of, Held, read_behind, one_turn, all_turns, at_first}
 use Rattle.replay.specs.Statements.{TurnsAreReplay}
 use Rattle.replay.proofs.Calls.{call_is_part}
@@ -48,6 +47,6 @@ turns_are_replay hear b w parts =
       k.picture ∙ ap (λ (r : Run). r.picture) e,
       ap (λ (s : Stream). s.heard) k.stream ∙ ap (λ (r : Run). kept r.replay.heard) e,
       ap (λ (s : Stream). s.refused) k.stream ∙ ap (λ (r : Run). kept r.replay.refused) e,
-      ap (λ (s : Stream). s.refusal) k.stream ∙ ap (λ (r : Run). r.replay.refusal) e,
-      ap (λ (s : Stream). s.offset) k.stream ∙ ap (λ (r : Run). kept r.replay.offset) e,
+      ap (λ (s : Stream). s.base) k.stream ∙ ap (λ (r : Run). kept r.replay.at) e,
+      ap (λ (s : Stream). s.fault) k.stream ∙ ap (λ (r : Run). kept_fault r.replay.fault) e,
     )

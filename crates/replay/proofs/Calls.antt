@@ -3,14 +3,19 @@
 -- Assumes nothing.
 use Rattle.std.proofs.Common.{◌≡◌, ℕ, ◌+◌, ◌-◌, ◌^◌, List, ◌++◌, length, take, drop, refl, ap, ◌∙◌, arith, length-append, length-drop, take_at}
 use native.Mathlib.Nat.{mod-add-mod}
+use Rattle.std.specs.Prelude.{Option, Some, None}
 use Rattle.replay.specs.Replay.{Run, replayed}
-use Rattle.replay.specs.Window.{kept, shifted, advanced, turn_over}
+use Rattle.replay.specs.Window.{kept, kept_fault, fault_further, shifted, advanced, turn_over}
 use Rattle.replay.specs.Parts.{next_run, one_part, stream_of}
 use Rattle.replay.specs.Statements.{CallIsPart, BeginsWithNone}
 
 -- a count that was kept, and more, is kept as their sum
 kept-sum : (n m : ℕ) → kept (kept n + m) ≡ kept (n + m)
 kept-sum n m = mod-add-mod n (2 ^ 64) m
+
+kept_further : (n : ℕ) (f : Option (ℕ × ℕ)) → kept_fault (fault_further (kept n) f) ≡ kept_fault (fault_further n f)
+kept_further n None = refl
+kept_further n (Some f) = λ i. Some (f.0, kept-sum n f.1 i)
 
 pub call_is_part : CallIsPart
 call_is_part hear p part w room holds =
@@ -25,8 +30,7 @@ call_is_part hear p part w room holds =
             refused = kept-sum t.refused r.replay.refused i;
             base = kept-sum t.at r.replay.at i;
             left = rest i;
-            refusal = r.replay.refusal;
-            offset = kept-sum t.at r.replay.offset i;
+            fault = kept_further t.at r.replay.fault i;
           }),
       ap (λ (x : Run). x.picture) run,
       ap (take (length (one_part hear p part).left)) ((λ i. shifted w (run i).replay.at n) ∙ ap (λ (l : List ℕ). drop r.replay.at l ++ drop (n - r.replay.at) w) holds)

@@ -1,6 +1,5 @@
 pub mod Runs
 pub mod Turns
-pub mod Shifts
 pub mod Calls
 pub mod Rooms
 pub mod AllTurns

@@ -3,19 +3,19 @@
 --     moves_on          a replay further on, with records before it
 --     runs_follow, bad_number_ends, parts_are_whole
 -- Assumes nothing.
-use Rattle.std.proofs.Common.{◌≡◌, ℕ, zero, suc, ◌+◌, ◌-◌, List, [], ◌∷◌, ◌++◌, length, take, drop, sym, refl, ap, ◌∙◌, ⊎_elim, append_assoc, append-nil, arith, length-append, length-drop, take-append-drop, length-take-le, drop-drop, eq-eqb}
+use Rattle.std.proofs.Common.{◌≡◌, ℕ, zero, suc, ◌+◌, ◌-◌, List, [], ◌∷◌, ◌++◌, length, take, drop, sym, refl, ap, ◌∙◌, append_assoc, append-nil, arith, length-append, length-drop, take-append-drop, length-take-le, drop-drop}
+use Rattle.std.specs.Prelude.{Some, None, Ok, Err}
 use lib.Seq.{take-append-le, drop-append-le, drop-append-add, drop-nil}
 use Rattle.laws.specs.Refusals.{bad_number}
-use Rattle.recording.specs.declared.records.Entry.{Entry}
-use Rattle.recording.specs.declared.records.Entry.TheVariants.{Record, End, Broken}
-use Rattle.recording.specs.Record.{read_record}
+use Rattle.recording.specs.Record.{Entry, End, read_record}
 use Rattle.recording.specs.Window.{settled, further}
 use Rattle.recording.proofs.Entries.{records_are_whole, past_end}
 use Rattle.recording.proofs.Windows.{window_settles, window_moves}
 use Rattle.replay.specs.Replay.{Hearing, Heard, Run, one, stopped, counted, run_step, run_from, run_on, replayed}
+use Rattle.replay.specs.Window.{fault_further}
 use Rattle.replay.specs.Parts.{then, Parts, no_parts, next_run, one_part, all_parts, joined}
 use Rattle.replay.specs.Statements.{RunsFollow, PartsAreWhole, BadNumberEnds}
-use Rattle.replay.proofs.Runs.{fuel, run_heard, run-ended, run-broken, stops, stops_inside}
+use Rattle.replay.proofs.Runs.{standing, fuel, run_heard, run-ended, run-broken, stops, stops_inside}
 
 module _ (hear : Hearing) (s t : List ℕ) where
   -- the replay of the whole, from an offset, goes on from where the run r of s stopped
@@ -29,36 +29,34 @@ module _ (hear : Hearing) (s t : List ℕ) where
     where
       go : (e : Entry) → read_record s at ≡ e → ((b : List ℕ) (heard refused next : ℕ) → Goes b heard refused next (run_from hear f s b heard refused next))
           → Goes b heard refused at (run_step hear (run_from hear f s) s b heard refused at e)
-      go (Record gap identifier remote start len next) e again =
-          let w = records_are_whole s at gap identifier remote start len next e in
-          let same : read_record (s ++ t) at ≡ Record gap identifier remote start len next = window_settles s t at (ap settled e) ∙ e in
-          let ds : take len (drop start (s ++ t)) ≡ take len (drop start s) =
-          ap (take len) (drop-append-le start s t (omega (arith, w.ends, w.inside))) ∙ take-append-le len (drop start s) t (omega (arith, length-drop start s, w.ends, w.inside)) in
-          run_heard hear (s ++ t) b heard refused at gap identifier remote start len next same
-          ∙ ap (λ (l : List ℕ). counted (run_on hear (s ++ t)) (hear b identifier remote l) heard refused next) ds
-          ∙ again _ _ _ next
+      go (Ok (Some r)) e again =
+          let w = records_are_whole s at r.gap r.identifier r.remote r.start r.len r.next e in
+          let same : read_record (s ++ t) at ≡ Ok (Some r) = window_settles s t at (ap settled e) ∙ e in
+          let ds : take r.len (drop r.start (s ++ t)) ≡ take r.len (drop r.start s) =
+          ap (take r.len) (drop-append-le r.start s t (omega (arith, w.ends, w.inside))) ∙ take-append-le r.len (drop r.start s) t (omega (arith, length-drop r.start s, w.ends, w.inside)) in
+          run_heard hear (s ++ t) b heard refused at r.gap r.identifier r.remote r.start r.len r.next same
+          ∙ ap (λ (l : List ℕ). counted (run_on hear (s ++ t)) (hear b r.identifier r.remote l) heard refused r.next) ds
+          ∙ again _ _ _ r.next
       go End e again = refl
-      go (Broken refusal offset) e again = refl
+      go (Err fault) e again = refl
 
   goes_on : (b : List ℕ) → Goes b 0 0 0 (replayed hear b s)
   goes_on b = goes (suc (length s)) b 0 0 0
 
   -- a bad number ends the replay, whatever follows
-  bad_stays : (b : List ℕ) → (replayed hear b s).replay.refusal ≡ bad_number → replayed hear b (s ++ t) ≡ replayed hear b s
+  bad_stays : (b : List ℕ) (p : ℕ) → (replayed hear b s).replay.fault ≡ Some (bad_number, p) → replayed hear b (s ++ t) ≡ replayed hear b s
   unfolding Goes
-  bad_stays b bad =
+  bad_stays b p bad =
       let r : Run = replayed hear b s in
-      let p = r.replay in
-      ⊎_elim
-      (λ end. absurd (omega (arith, end.1, bad)))
-      (λ broken.
-      let same : read_record (s ++ t) p.at ≡ Broken p.refusal p.offset = window_settles s t p.at (ap settled broken ∙ eq-eqb p.refusal bad_number bad) ∙ broken in
-      goes_on b ∙ run-broken hear (s ++ t) r.picture p.heard p.refused p.at p.refusal p.offset same)
-      (stops hear s b).there
+      let here : read_record s r.replay.at ≡ Err (bad_number, p) = (stops hear s b).there ∙ ap standing bad in
+      let same : read_record (s ++ t) r.replay.at ≡ Err (bad_number, p) = window_settles s t r.replay.at (ap settled here) ∙ here in
+      goes_on b
+      ∙ run-broken hear (s ++ t) r.picture r.replay.heard r.replay.refused r.replay.at (bad_number, p) same
+      ∙ (λ i. stopped r.picture r.replay.heard r.replay.refused r.replay.at (sym bad i))
 
 -- a run further on: offsets by k, and counts by what was heard and refused before
 abbrev ahead : ℕ → ℕ → ℕ → Run → Run
-ahead k c d r = stopped r.picture (c + r.replay.heard) (d + r.replay.refused) (k + r.replay.at) r.replay.refusal (k + r.replay.offset)
+ahead k c d r = stopped r.picture (c + r.replay.heard) (d + r.replay.refused) (k + r.replay.at) (fault_further k r.replay.fault)
 
 moves_on : (hear : Hearing) (p s : List ℕ) (c d f : ℕ) (b : List ℕ) (heard refused at : ℕ)
     → run_from hear f (p ++ s) b (c + heard) (d + refused) (length p + at) ≡ ahead (length p) c d (run_from hear f s b heard refused at)
@@ -69,16 +67,16 @@ moves_on hear p s c d (suc f) b heard refused at =
   where
     go : (e : Entry) → ((b : List ℕ) (heard refused next : ℕ) → run_from hear f (p ++ s) b (c + heard) (d + refused) (length p + next) ≡ ahead (length p) c d (run_from hear f s b heard refused next))
         → run_step hear (run_from hear f (p ++ s)) (p ++ s) b (c + heard) (d + refused) (length p + at) (further (length p) e) ≡ ahead (length p) c d (run_step hear (run_from hear f s) s b heard refused at e)
-    go (Record gap identifier remote start len next) again =
-        let ds : take len (drop (length p + start) (p ++ s)) ≡ take len (drop start s) = ap (take len) (drop-append-add p s start) in
-        let h : Heard = hear b identifier remote (take len (drop start s)) in
+    go (Ok (Some r)) again =
+        let ds : take r.len (drop (length p + r.start) (p ++ s)) ≡ take r.len (drop r.start s) = ap (take r.len) (drop-append-add p s r.start) in
+        let h : Heard = hear b r.identifier r.remote (take r.len (drop r.start s)) in
         let n₁ : c + heard + one h.accepted ≡ c + (heard + one h.accepted) = omega arith in
         let n₂ : d + refused + (1 - one h.accepted) ≡ d + (refused + (1 - one h.accepted)) = omega arith in
-        ap (λ (l : List ℕ). counted (run_from hear f (p ++ s)) (hear b identifier remote l) (c + heard) (d + refused) (length p + next)) ds
-        ∙ (λ i. run_from hear f (p ++ s) h.picture (n₁ i) (n₂ i) (length p + next))
-        ∙ again h.picture (heard + one h.accepted) (refused + (1 - one h.accepted)) next
+        ap (λ (l : List ℕ). counted (run_from hear f (p ++ s)) (hear b r.identifier r.remote l) (c + heard) (d + refused) (length p + r.next)) ds
+        ∙ (λ i. run_from hear f (p ++ s) h.picture (n₁ i) (n₂ i) (length p + r.next))
+        ∙ again h.picture (heard + one h.accepted) (refused + (1 - one h.accepted)) r.next
     go End again = refl
-    go (Broken refusal offset) again = refl
+    go (Err fault) again = refl
 
 pub runs_follow : RunsFollow
 unfolding Goes
@@ -101,7 +99,7 @@ runs_follow hear b s t =
     ∙ ap (then r) (fuel hear w F (suc (length w)) r.picture 0 0 0 (omega arith) (omega arith))
 
 pub bad_number_ends : BadNumberEnds
-bad_number_ends hear b s t bad = bad_stays hear s t b bad
+bad_number_ends hear b s t p bad = bad_stays hear s t b p bad
 
 -- the parts so far make the input s: they come to its replay, and what it left is left
 record Heard-of (hear : Hearing) (b s : List ℕ) (p : Parts) : Type 0 where
@@ -132,5 +130,5 @@ all_parts_lem hear b s p (part ∷ parts) h =
 
 pub parts_are_whole : PartsAreWhole
 parts_are_whole hear b parts =
-    let none : replayed hear b [] ≡ stopped b 0 0 0 0 0 = run-ended hear [] b 0 0 0 (past_end [] 0 (omega arith)) in
+    let none : replayed hear b [] ≡ stopped b 0 0 0 None = run-ended hear [] b 0 0 0 (past_end [] 0 (omega arith)) in
     all_parts_lem hear b [] (no_parts b) parts (record { total = sym none; left = sym (drop-nil (replayed hear b []).replay.at) })

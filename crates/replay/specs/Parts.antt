@@ -1,8 +1,7 @@
 -- What hearing an input in parts comes to, in plain numbers.
-use Rattle.std.specs.Prelude.{ℕ, ◌+◌, List, [], ◌∷◌, ◌++◌, length, take, drop}
-use Rattle.replay.specs.declared.window.Stream.{Stream}
+use Rattle.std.specs.Prelude.{ℕ, ◌+◌, List, [], ◌∷◌, ◌++◌, length, take, drop, None}
 use Rattle.replay.specs.Replay.{Hearing, Run, stopped, replayed}
-use Rattle.replay.specs.Window.{kept, begun, turn_over, heard_stream, heard_window}
+use Rattle.replay.specs.Window.{kept, kept_fault, fault_further, Stream, begun, turn_over, heard_stream, heard_window}
 
 -- one run, and a second from where the first stopped: counts and offsets add up
 abbrev pub then : Run → Run → Run
@@ -12,8 +11,7 @@ then r r' = record {
     heard = r.replay.heard + r'.replay.heard;
     refused = r.replay.refused + r'.replay.refused;
     at = r.replay.at + r'.replay.at;
-    refusal = r'.replay.refusal;
-    offset = r.replay.at + r'.replay.offset;
+    fault = fault_further r.replay.at r'.replay.fault;
   };
 }
 
@@ -24,7 +22,7 @@ pub record Parts : Type 0 where
 
 -- before the first part, with a picture of the bytes b
 abbrev pub no_parts : List ℕ → Parts
-no_parts b = record { total = stopped b 0 0 0 0 0; left = [] }
+no_parts b = record { total = stopped b 0 0 0 None; left = [] }
 
 -- the replay of one more part with what was left before it
 abbrev pub next_run : Hearing → Parts → List ℕ → Run
@@ -51,8 +49,7 @@ stream_of p = record {
   refused = kept p.total.replay.refused;
   base = kept p.total.replay.at;
   left = length p.left;
-  refusal = p.total.replay.refusal;
-  offset = kept p.total.replay.offset;
+  fault = kept_fault p.total.replay.fault;
 }
 
 -- what a program holds between two turns

@@ -1,17 +1,14 @@
 -- A recording heard record by record.
-use Rattle.std.specs.Prelude.{ℕ, zero, suc, ◌+◌, ◌-◌, Bool, true, false, cond, List, length, take, drop, nat_le}
+use Rattle.shape.specs.Answers.{Outcome}
+use Rattle.std.specs.Prelude.{ℕ, zero, suc, ◌+◌, ◌-◌, Bool, true, false, cond, List, length, take, drop, nat_le, Ok, Err, Some, Result, Option, None, option_map}
 use Rattle.laws.specs.Answers as numbers
 use Rattle.laws.specs.Refusals.{too_short}
 use Rattle.shape.specs.Head.{short}
-use Rattle.shape.specs.declared.answers.Outcome.{Outcome}
-use Rattle.shape.specs.declared.answers.Outcome.TheVariants.{Done, Refused}
 use Rattle.picture.specs.Hearing.{hearing}
-use Rattle.recording.specs.declared.records.Entry.{Entry}
-use Rattle.recording.specs.declared.records.Entry.TheVariants.{Record, End, Broken}
-use Rattle.recording.specs.Record.{read_record}
-use Rattle.replay.specs.declared.records.Replay.{Replay}
-use Rattle.replay.specs.declared.records.Replayed.{Replayed}
-use Rattle.replay.specs.declared.records.Replayed.TheVariants as answered
+use Rattle.recording.specs.Record.{told_fault, Entry, End, read_record}
+use Rattle.laws.specs.declared.refusals.Refusal.{Refusal}
+use Rattle.laws.specs.Codes.{code_of}
+use Rattle.replay.specs.declared.records.Replay as code
 
 -- what hearing a frame gives: the picture's bytes, and whether the frame was accepted
 pub record Heard : Type 0 where
@@ -23,8 +20,8 @@ abbrev pub Hearing : Type 0
 Hearing = List ℕ → ℕ → ℕ → List ℕ → Heard
 
 abbrev pub is_done : Outcome → Bool
-is_done Done = true
-is_done (Refused n) = false
+is_done (Ok tt) = true
+is_done (Err n) = false
 
 -- the picture's own hearing
 unfoldable pub heard_by : Hearing
@@ -35,15 +32,31 @@ abbrev pub one : Bool → ℕ
 one true = 1
 one false = 0
 
+-- what a replay comes to: the records accepted and refused, the offset of the first byte that is not read as a record, and the fault there by
+-- its refusal number and its offset, where the end is not there
+pub record Replay : Type 0 where
+  pub heard : ℕ
+  pub refused : ℕ
+  pub at : ℕ
+  pub fault : Option (ℕ × ℕ)
+
+-- the same, of what the code answers
+abbrev pub told_replay : code.Replay → Replay
+told_replay r = record { heard = r.heard; refused = r.refused; at = r.at; fault = option_map told_fault r.fault }
+
+-- an answer of `hear_all`, so
+abbrev pub told_replayed : Result code.Replay Refusal → Result Replay ℕ
+told_replayed (Ok r) = Ok (told_replay r)
+told_replayed (Err e) = Err (code_of e)
+
 -- what a replay leaves: the picture's bytes, and the answer
 pub record Run : Type 0 where
   pub picture : List ℕ
   pub replay : Replay
 
--- the replay stops at the offset `at`, for the refusal there, 0 for the end
-abbrev pub stopped : List ℕ → ℕ → ℕ → ℕ → ℕ → ℕ → Run
-stopped b heard refused at refusal offset =
-    record { picture = b; replay = record { heard = heard; refused = refused; at = at; refusal = refusal; offset = offset } }
+-- the replay stops at the offset `at`, for the fault there or for the end
+abbrev pub stopped : List ℕ → ℕ → ℕ → ℕ → Option (ℕ × ℕ) → Run
+stopped b heard refused at fault = record { picture = b; replay = record { heard = heard; refused = refused; at = at; fault = fault } }
 
 -- a record is heard, and the rest follows from the offset past it
 abbrev pub counted : (List ℕ → ℕ → ℕ → ℕ → Run) → Heard → ℕ → ℕ → ℕ → Run
@@ -51,13 +64,13 @@ counted rest h heard refused next = rest h.picture (heard + one h.accepted) (ref
 
 -- by what stands at the offset `at`
 abbrev pub run_step : Hearing → (List ℕ → ℕ → ℕ → ℕ → Run) → List ℕ → List ℕ → ℕ → ℕ → ℕ → Entry → Run
-run_step hear rest s b heard refused at (Record gap identifier remote start len next) = counted rest (hear b identifier remote (take len (drop start s))) heard refused next
-run_step hear rest s b heard refused at End = stopped b heard refused at 0 at
-run_step hear rest s b heard refused at (Broken refusal offset) = stopped b heard refused at refusal offset
+run_step hear rest s b heard refused at (Ok (Some r)) = counted rest (hear b r.identifier r.remote (take r.len (drop r.start s))) heard refused r.next
+run_step hear rest s b heard refused at End = stopped b heard refused at None
+run_step hear rest s b heard refused at (Err fault) = stopped b heard refused at (Some fault)
 
 -- the records from `at` on, at most `steps` of them, after those that were accepted and refused before
 unfoldable pub run_from : Hearing → ℕ → List ℕ → List ℕ → ℕ → ℕ → ℕ → Run
-run_from hear zero s b heard refused at = stopped b heard refused at 0 at
+run_from hear zero s b heard refused at = stopped b heard refused at None
 run_from hear (suc steps) s b heard refused at = run_step hear (run_from hear steps s) s b heard refused at (read_record s at)
 
 -- every record takes at least one byte, so as many steps as there are bytes, and one, reach the end
@@ -69,13 +82,13 @@ abbrev pub replayed : Hearing → List ℕ → List ℕ → Run
 replayed hear b s = run_on hear s b 0 0 0
 
 -- what `hear_all` answers: a picture too short is 13, before anything else
-unfoldable pub replay_answer : List ℕ → List ℕ → Replayed
-replay_answer b s = cond (short b) (answered.Refused too_short) (answered.Heard (replayed heard_by b s).replay)
+unfoldable pub replay_answer : List ℕ → List ℕ → Result Replay ℕ
+replay_answer b s = cond (short b) (Err too_short) (Ok (replayed heard_by b s).replay)
 
 -- in the paper's numbers: what was heard is told beside them
-abbrev pub replayed_numbers : Replayed → numbers.Numbers
-replayed_numbers (answered.Heard r) = numbers.value 0
-replayed_numbers (answered.Refused n) = numbers.refusal n
+abbrev pub replayed_numbers : Result Replay ℕ → numbers.Numbers
+replayed_numbers (Ok r) = numbers.value 0
+replayed_numbers (Err n) = numbers.refusal n
 
 -- and the picture then; a refusal changes no byte
 unfoldable pub replay_picture : List ℕ → List ℕ → List ℕ

@@ -4,5 +4,5 @@
 mod records;
 mod window;
 
-pub use records::{Replay, Replayed, hear_all};
-pub use window::{Part, Stream, begin, hear_part};
+pub use records::{Replay, hear_all};
+pub use window::{Stream, begin, hear_part};

@@ -1,28 +1,19 @@
 // Hearing the records of a slice.
 ghost use Rattle.std.specs.Prelude.{◌≡◌, ◌+◌, ◌-◌, ◌<◌};
-ghost use Rattle.picture.specs.Hearing.{hearing};
-ghost use Rattle.replay.specs.Replay.{one, is_done, heard_by, replayed, replay_answer, replay_picture};
+ghost use Rattle.replay.specs.Replay.{one, is_done, heard_by, replayed, told_replay, told_replayed, replay_answer, replay_picture};
 
-use laws::TOO_SHORT;
-use recording::Entry;
-use shape::{Outcome, SIZE};
+use laws::Refusal;
+use recording::Fault;
+use shape::SIZE;
 
-// The records accepted and refused, the offset of the first byte that is not read as a record, and what is at fault there:
-// the refusal's number, 0 where the slice ends, and its offset.
-#[derive(Clone, Copy)]
+// The records accepted and refused, the offset of the first byte that is not read as a record, and the fault there, where the slice does
+// not end.
+#[derive(Clone, Copy, Debug, PartialEq, Eq)]
 pub struct Replay {
     pub heard: u64,
     pub refused: u64,
     pub at: usize,
-    pub refusal: u16,
-    pub offset: usize,
-}
-
-// What hearing a recording answers.
-#[derive(Clone, Copy)]
-pub enum Replayed {
-    Heard(Replay),
-    Refused(u16),
+    pub fault: Option<Fault>,
 }
 
 // Hears a frame, and counts it where it is refused.
@@ -32,49 +23,42 @@ fn hear_one(picture: &mut [u8], identifier: u32, remote: u32, data: &[u8], refus
     ensures picture_after { picture.new ≡ (heard_by picture.old identifier remote «data».now).picture }
 {
     match picture::hear(picture, identifier, remote, data) {
-        Outcome::Done => refused,
-        Outcome::Refused(_) => refused + 1,
+        Ok(()) => refused,
+        Err(_) => refused + 1,
     }
 }
 
 // Hears every record of s, in order, up to its end or to a fault.
 pub fn hear_records(picture: &mut [u8], s: &[u8]) -> Replay
-    ensures value { result ≡ (replayed heard_by picture.old s.now).replay }
+    ensures value { told_replay result ≡ (replayed heard_by picture.old s.now).replay }
     ensures picture_after { picture.new ≡ (replayed heard_by picture.old s.now).picture }
 {
     let mut records: u64 = 0;
     let mut refused: u64 = 0;
     let mut at: usize = 0;
+    // A loop, since where the next record begins is told by the one before: a count of turns would be no plainer.
     loop {
         match quick::read_record(s, at) {
-            Entry::Record {
-                gap: _,
-                identifier,
-                remote,
-                start,
-                len,
-                next,
-            } => {
+            Ok(Some(record)) => {
+                let data = &s[record.start..record.start + record.len];
                 records += 1;
-                refused = hear_one(picture, identifier, remote, &s[start..start + len], refused);
-                at = next;
+                refused = hear_one(picture, record.identifier, record.remote, data, refused);
+                at = record.next;
             }
-            Entry::End => {
+            Ok(None) => {
                 return Replay {
                     heard: records - refused,
                     refused,
                     at,
-                    refusal: 0,
-                    offset: at,
+                    fault: None,
                 };
             }
-            Entry::Broken { refusal, offset } => {
+            Err(fault) => {
                 return Replay {
                     heard: records - refused,
                     refused,
                     at,
-                    refusal,
-                    offset,
+                    fault: Some(fault),
                 };
             }
         }
@@ -82,13 +66,12 @@ pub fn hear_records(picture: &mut [u8], s: &[u8]) -> Replay
 }
 
 // Hears a whole recording.
-pub fn hear_all(picture: &mut [u8], s: &[u8]) -> Replayed
-    ensures value { result ≡ replay_answer picture.old s.now }
+pub fn hear_all(picture: &mut [u8], s: &[u8]) -> Result<Replay, Refusal>
+    ensures value { told_replayed result ≡ replay_answer picture.old s.now }
     ensures picture_after { picture.new ≡ replay_picture picture.old s.now }
 {
     if picture.len() < SIZE {
-        return Replayed::Refused(TOO_SHORT);
+        return Err(Refusal::TooShort);
     }
-    let r = hear_records(picture, s);
-    Replayed::Heard(r)
+    Ok(hear_records(picture, s))
 }

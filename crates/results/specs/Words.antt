@@ -3,9 +3,7 @@
 use Rattle.std.specs.Prelude.{ℕ, ◌*◌, ◌%◌, cond, leb}
 use Rattle.laws.specs.Refusals.{too_short}
 use Rattle.laws.specs.Answers.{Numbers, value, refusal}
-use Rattle.shape.specs.declared.answers.Outcome.{Outcome}
-use Rattle.shape.specs.declared.answers.Answer.{Answer}
-use Rattle.shape.specs.Answers.{outcome_numbers, answer_numbers}
+use Rattle.shape.specs.Answers.{outcome_numbers, answer_numbers, Outcome, Answer}
 
 -- how many values there are
 abbrev pub values : ℕ

@@ -3,4 +3,4 @@
 
 mod words;
 
-pub use words::{answer_word, outcome_word, refused, room_word};
+pub use words::{answer_word, filled_word, outcome_word, refused, room_word, value_word};

@@ -1,32 +1,55 @@
 // The result word: bits 0 to 15 the value; bits 16 to 23 the refusal number; bits 24 to 31 the number of the data byte that a 9 comes with.
 ghost use Rattle.std.specs.Prelude.{◌≡◌};
+ghost use Rattle.laws.specs.Codes.{code_of, coded};
+ghost use Rattle.shape.specs.Answers.{valued, filled};
 ghost use Rattle.results.specs.Words.{refused_word, outcome_word, answer_word, room_word};
 
-use laws::TOO_SHORT;
-use shape::{Answer, NOT_HEARD, Outcome};
+use laws::Refusal;
+use shape::NOT_HEARD;
 
-pub fn refused(code: u16) -> u32
-    ensures { result ≡ refused_word code }
+pub fn refused(refusal: Refusal) -> u32
+    ensures { result ≡ refused_word (code_of refusal) }
 {
-    65536 * (code as u32)
+    65536 * refusal.code() as u32
 }
 
-pub fn outcome_word(outcome: Outcome) -> u32
-    ensures { result ≡ outcome_word outcome }
+pub fn outcome_word(outcome: Result<(), Refusal>) -> u32
+    ensures { result ≡ outcome_word (coded outcome) }
 {
     match outcome {
-        Outcome::Done => 0,
-        Outcome::Refused(code) => refused(code),
+        Ok(()) => 0,
+        Err(refusal) => refused(refusal),
     }
 }
 
-pub fn answer_word(answer: Answer) -> u32
-    ensures { result ≡ answer_word answer }
+// Of a question on a place, which may be not heard.
+pub fn answer_word(answer: Result<Option<u16>, Refusal>) -> u32
+    ensures { result ≡ answer_word (coded answer) }
 {
     match answer {
-        Answer::Value(value) => value as u32,
-        Answer::NotHeard => NOT_HEARD as u32,
-        Answer::Refused(code) => refused(code),
+        Ok(Some(value)) => value as u32,
+        Ok(None) => NOT_HEARD as u32,
+        Err(refusal) => refused(refusal),
+    }
+}
+
+// Of a question that is always answered by a number.
+pub fn value_word(answer: Result<u16, Refusal>) -> u32
+    ensures { result ≡ answer_word (valued (coded answer)) }
+{
+    match answer {
+        Ok(value) => value as u32,
+        Err(refusal) => refused(refusal),
+    }
+}
+
+// Of a question that fills a buffer.
+pub fn filled_word(answer: Result<(), Refusal>) -> u32
+    ensures { result ≡ answer_word (filled (coded answer)) }
+{
+    match answer {
+        Ok(()) => 0,
+        Err(refusal) => refused(refusal),
     }
 }
 
@@ -37,6 +60,6 @@ pub fn room_word(room: usize, need: u16) -> u32
     if need as usize <= room {
         need as u32
     } else {
-        refused(TOO_SHORT)
+        refused(Refusal::TooShort)
     }
 }

@@ -1,4 +1,4 @@
-// Where a picture's parts lie in its bytes, what steers, and what a call answers; every function here is total on any bytes.
+// Where a picture's parts lie in its bytes, what steers, and the number of a place that is not heard; every function here is total on any bytes.
 #![tactic(auto)]
 
 mod answers;
@@ -6,7 +6,7 @@ mod bytes;
 mod head;
 mod layout;
 
-pub use answers::{Answer, NOT_HEARD, Outcome};
+pub use answers::NOT_HEARD;
 pub use bytes::put_at;
 pub use head::{NO_SLOT, depth_of, kept_of, kind_in, modules_of, next_of, slot_of};
 pub use layout::{

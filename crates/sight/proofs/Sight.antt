@@ -2,6 +2,7 @@
 --     located_held       what the test of a location tells
 --     cell-asked, ..     the arms, each with what the code tested and did
 -- Assumes nothing.
+use Rattle.std.specs.Prelude.{Ok, Some}
 use Rattle.std.proofs.Common.{◌≡◌, ℕ, zero, suc, ◌+◌, ◌*◌, ◌≤◌, Bool, true, false, ◌&&◌, eqb, leb, List, [], ◌∷◌, length, get_or, set, sym, refl, ap, ◌∙◌, subst, arith, get_or-set_other, ext_get_or, eqb-true, leb-true}
 use lib.Seq.{sets}
 use Rattle.laws.specs.Tab.{tab}
@@ -26,11 +27,9 @@ use Rattle.bench.specs.Deeds.{store, done_by, done}
 use Rattle.bench.specs.Sending.{all_bytes}
 use Rattle.bench.proofs.Storing.{no_more, dump-length}
 use Rattle.verdicts.specs.Verdicts.{sent_only, judged}
-use Rattle.verdicts.specs.declared.verdicts.Verdict.TheVariants.{Takes}
 use Rattle.verdicts.proofs.Own.{own-taken}
 use Rattle.sight.specs.Words.{taken_word}
 use Rattle.sight.specs.Arms.{Ours, Took, located}
-use Rattle.taking.specs.declared.taking.Taken.TheVariants.{Replies}
 use Rattle.taking.proofs.Given.{room, by-judged}
 use Rattle.sight.proofs.Laid.{near}
 
@@ -105,10 +104,10 @@ module _ (b : List ℕ) (address identifier : ℕ) (ours : Ours b address identi
       12 * n ≤ length buffer →
       b' ≡ done (Tells m) b →
       buffer' ≡ sets buffer 0 (all_bytes (own_address b') (replies b' (Tells m))) →
-      Took b identifier 0 s buffer (taken_word (Replies n)) b' buffer'
+      Took b identifier 0 s buffer (taken_word (Ok n)) b' buffer'
   taken s b' buffer' m n h₁ h₈ sent r d count fits e f =
-      let j : judged (own_address b) identifier 0 s ≡ Takes (Tells m) = rw (← ours.own, ours.addressed) (own-taken address s m ours.small h₁ h₈ sent r d) in
-      let g = by-judged b s buffer identifier 0 (judged (own_address b) identifier 0 s) (Takes (Tells m)) (Replies n) b' buffer' ours.whole refl j (room b b' buffer buffer' (Tells m) n count fits e f) in
+      let j : judged (own_address b) identifier 0 s ≡ Ok (Some (Tells m)) = rw (← ours.own, ours.addressed) (own-taken address s m ours.small h₁ h₈ sent r d) in
+      let g = by-judged b s buffer identifier 0 (judged (own_address b) identifier 0 s) (Ok (Some (Tells m))) (Ok n) b' buffer' ours.whole refl j (room b b' buffer buffer' (Tells m) n count fits e f) in
       record { answered = ap taken_word g.0; bench_after = g.1.0; buffer_after = g.1.1 }
 
   -- questions: the bench stays as it is

@@ -82,10 +82,8 @@ pub(crate) fn tell_all(bench: &[u8], address: u8, buffer: &mut [u8])
     requires { (bench_size ≤ length bench.now) × (768 ≤ length buffer.old) }
     ensures { buffer.new ≡ sets buffer.old 0 (all_bytes address (dump bench.now 0 blocks)) }
 {
-    let mut i: u8 = 0;
-    while i < BLOCKS {
+    for i in 0..BLOCKS {
         lay_block(bench, address, 4 * i, buffer, FRAME * i as usize);
-        i += 1;
     }
 }
 

@@ -1,5 +1,6 @@
 // The result word of a frame for the bench.
 ghost use Rattle.std.specs.Prelude.{◌≡◌};
+ghost use Rattle.laws.specs.Codes.{coded};
 ghost use Rattle.taking.specs.Taking.{taking};
 ghost use Rattle.sight.specs.Words.{taken_word};
 ghost use Rattle.sight.specs.Arms.{Took};
@@ -7,17 +8,17 @@ ghost use Rattle.sight.specs.Arms.{Took};
 use crate::arms::take_own;
 use crate::laying::LOWEST;
 use bench::SIZE;
-use laws::{TOO_SHORT, byte_at, wide32};
+use laws::{Refusal, byte_at, wide32};
 use replies::ADDRESS_AT;
 use results::refused;
-use taking::{Taken, bench_take};
+use taking::bench_take;
 
-fn taken_word(taken: Taken) -> u32
-    ensures { result ≡ taken_word taken }
+fn taken_word(taken: Result<u16, Refusal>) -> u32
+    ensures { result ≡ taken_word (coded taken) }
 {
     match taken {
-        Taken::Replies(count) => count as u32,
-        Taken::Refused(code) => refused(code),
+        Ok(count) => count as u32,
+        Err(refusal) => refused(refusal),
     }
 }
 
@@ -47,7 +48,7 @@ pub fn take_word(
     ensures replies_after { replies.new ≡ (taking bench.old identifier remote «data».now replies.old).buffer }
 {
     if bench.len() < SIZE {
-        return refused(TOO_SHORT);
+        return refused(Refusal::TooShort);
     }
     let address = byte_at(bench, ADDRESS_AT);
     if identifier != LOWEST + 2 * wide32(address) {

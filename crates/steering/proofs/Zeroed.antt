@@ -1,11 +1,10 @@
--- Laws of bytes made 0, one more with each turn of a loop. Assumes nothing.
-use Rattle.std.proofs.Common.{◌≡◌, ℕ, ◌+◌, List, set, refl, add-one}
+-- Bytes made 0 at the front of a list. Assumes nothing.
+use Rattle.std.proofs.Common.{◌≡◌, ℕ, zero, suc, ◌++◌, ◌≤◌, List, length, drop, set, replicate, sym, ap, ◌∙◌, add-one, arith}
+use Rattle.std.proofs.lemmas.List.Edits.{fill_none, fill_more}
 use Rattle.steering.specs.Fresh.{zeroed}
 
-pub zeroed-none : (b : List ℕ) → b ≡ zeroed b 0
+pub zeroed_front : (b : List ℕ) (n : ℕ) → n ≤ length b → replicate n 0 ++ drop n b ≡ zeroed b n
 unfolding zeroed
-zeroed-none b = refl
-
-pub zeroed-more : (b : List ℕ) (n : ℕ) {x y : List ℕ} → x ≡ zeroed b n → y ≡ set x n 0 → y ≡ zeroed b (n + 1)
-unfolding zeroed
-zeroed-more b n p q = rw (add-one, ← p) q
+zeroed_front b zero h = sym (fill_none b 0)
+zeroed_front b (suc n) h =
+    sym (ap (λ x. set x n 0) (sym (zeroed_front b n (omega arith))) ∙ fill_more n 0 b (omega arith) ∙ rw add-one)

@@ -1,5 +1,6 @@
 // A step back.
 ghost use Rattle.std.specs.Prelude.{◌≡◌, pred, ◌<◌, ◌≤◌, length, slice_set};
+ghost use Rattle.laws.specs.Codes.{coded};
 ghost use Rattle.shape.specs.Limits.{ring};
 ghost use Rattle.shape.specs.Layout.{count_at, size};
 ghost use Rattle.shape.specs.Head.{modules_of};
@@ -7,10 +8,10 @@ ghost use Rattle.stores.specs.Stepping.{undone, back_over, stepping_back};
 
 use crate::bytes::{copy_sixteen, number_at};
 use crate::entries::DID_ENTER;
-use laws::{NOTHING_KEPT, TOO_SHORT, byte_at};
+use laws::{Refusal, byte_at};
 use shape::{
-    COUNT_AT, KEPT_AT, NEXT_AT, OLD_SIZE, Outcome, RING, RING_AT, SIZE, kept_of, modules_of,
-    offset_at, old_at, put_at,
+    COUNT_AT, KEPT_AT, NEXT_AT, OLD_SIZE, RING, RING_AT, SIZE, kept_of, modules_of, offset_at,
+    old_at, put_at,
 };
 
 // The last offset from which sixteen bytes lie below the ring.
@@ -61,16 +62,16 @@ fn back_over(picture: &mut [u8])
     put_at(picture, NEXT_AT, last);
 }
 
-pub fn step_back(picture: &mut [u8]) -> Outcome
-    ensures value { result ≡ (stepping_back picture.old).outcome }
+pub fn step_back(picture: &mut [u8]) -> Result<(), Refusal>
+    ensures value { coded result ≡ (stepping_back picture.old).outcome }
     ensures picture_after { picture.new ≡ (stepping_back picture.old).buffer }
 {
     if picture.len() < SIZE {
-        return Outcome::Refused(TOO_SHORT);
+        return Err(Refusal::TooShort);
     }
     if kept_of(picture) == 0 {
-        return Outcome::Refused(NOTHING_KEPT);
+        return Err(Refusal::NothingKept);
     }
     back_over(picture);
-    Outcome::Done
+    Ok(())
 }

@@ -3,4 +3,4 @@
 
 mod taking;
 
-pub use taking::{Taken, bench_take};
+pub use taking::bench_take;

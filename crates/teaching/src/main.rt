@@ -2,15 +2,11 @@
 // commands that the bench took, each with the bench's replies after it. A command that is refused is told on standard error, and is not written.
 #![tactic(auto)]
 
-ghost use Rattle.std.specs.Io.{ReadsAtMost};
-
-use recorder::Put;
-use recording::Entry;
-use shape::Outcome;
+use laws::Refusal;
+use recording::{Fault, Record};
 use std::env::{Env, FillError};
 use std::fs::{File, Files};
 use std::io::{self, Read};
-use taking::Taken;
 
 // Where no argument names them: the address, the map version and the build. A cell then holds its own location.
 const ADDRESS: u32 = 0x2A;
@@ -112,13 +108,8 @@ fn read_cells<R: Env + Files>(rt: &R, cells: &mut [u8; 256]) -> bool {
 // ---- one command
 
 // A refusal, with its byte where it has one: `bench: record 3 refused 9 at byte 2`.
-fn tell_refusal(rt: &impl Eprint, record: u64, code: u16) -> io::Result<()> {
-    let (number, byte) = (code % 256, code / 256);
-    if byte == 0 {
-        eprintln!(rt; "bench: record {record} refused {number}")
-    } else {
-        eprintln!(rt; "bench: record {record} refused {number} at byte {byte}")
-    }
+fn tell_refusal(rt: &impl Eprint, record: u64, refusal: Refusal) -> io::Result<()> {
+    eprintln!(rt; "bench: record {record} refused {refusal}")
 }
 
 // A record after the first `at` bytes of the buffer; how many bytes there are then.
@@ -130,7 +121,7 @@ fn put_after(
     remote: u32,
     data: &[u8],
 ) -> usize {
-    let Put::Wrote(n) = recorder::put_record(out, at, gap, identifier, remote, data) else {
+    let Ok(n) = recorder::put_record(out, at, gap, identifier, remote, data) else {
         return at;
     };
     at.wrapping_add(n)
@@ -176,22 +167,27 @@ fn put_out(rt: &impl Print, out: &[u8], end: usize) -> bool {
 fn command(
     rt: &(impl Print + Eprint),
     bench: &mut [u8],
-    record: u64,
-    gap: u64,
-    identifier: u32,
-    remote: u32,
+    number: u64,
+    record: Record,
     data: &[u8],
 ) -> io::Result<bool> {
     let mut replies = [0u8; REPLIES];
-    match taking::bench_take(bench, identifier, remote, data, &mut replies) {
-        Taken::Replies(count) => {
+    match taking::bench_take(bench, record.identifier, record.remote, data, &mut replies) {
+        Ok(count) => {
             let mut out = [0u8; RECORDS];
-            let first = put_after(&mut out, 0, gap, identifier, remote, data);
+            let first = put_after(
+                &mut out,
+                0,
+                record.gap,
+                record.identifier,
+                record.remote,
+                data,
+            );
             let end = put_replies(&mut out, first, &replies, count);
             Ok(put_out(rt, &out, end))
         }
-        Taken::Refused(code) => {
-            tell_refusal(rt, record, code)?;
+        Err(refusal) => {
+            tell_refusal(rt, number, refusal)?;
             Ok(true)
         }
     }
@@ -200,8 +196,9 @@ fn command(
 // ---- a lesson
 
 // A fault of the recording: `bench: broken at byte 17 refusal 15`.
-fn tell_fault(rt: &impl Eprint, offset: usize, refusal: u16) -> io::Result<()> {
-    eprintln!(rt; "bench: broken at byte {offset} refusal {refusal}")
+fn tell_fault(rt: &impl Eprint, fault: Fault) -> io::Result<()> {
+    let refusal = fault.refusal.code();
+    eprintln!(rt; "bench: broken at byte {} refusal {refusal}", fault.offset)
 }
 
 // The record at an offset; the offset of the next, where there may be one.
@@ -210,27 +207,21 @@ fn one_record(
     bench: &mut [u8],
     lesson: &[u8],
     at: usize,
-    record: u64,
+    number: u64,
 ) -> io::Result<Option<usize>> {
     match quick::read_record(lesson, at) {
-        Entry::Record {
-            gap,
-            identifier,
-            remote,
-            start,
-            len,
-            next,
-        } => {
-            let Some(data) = lesson.get(start..start.wrapping_add(len)) else {
+        Ok(Some(record)) => {
+            let end = record.start.wrapping_add(record.len);
+            let Some(data) = lesson.get(record.start..end) else {
                 return Ok(None);
             };
-            if command(rt, bench, record, gap, identifier, remote, data)? {
-                return Ok(Some(next));
+            if command(rt, bench, number, record, data)? {
+                return Ok(Some(record.next));
             }
             eprintln!(rt; "bench: the recording could not be written")?;
         }
-        Entry::End => {}
-        Entry::Broken { refusal, offset } => tell_fault(rt, offset, refusal)?,
+        Ok(None) => {}
+        Err(fault) => tell_fault(rt, fault)?,
     }
     Ok(None)
 }
@@ -247,26 +238,11 @@ fn all_records(rt: &(impl Print + Eprint), bench: &mut [u8], lesson: &[u8]) -> i
     Ok(())
 }
 
-// Reads until the buffer is full or the input ends; how many bytes it then has of the input.
-fn read_full<R: Read>(input: &mut R, buf: &mut [u8]) -> io::Result<usize>
-    ensures { ReadsAtMost result buf.new }
-{
-    let mut done = 0;
-    while done < buf.len() {
-        let n = input.read(&mut buf[done..])?;
-        if n == 0 {
-            break;
-        }
-        done += n;
-    }
-    Ok(done)
-}
-
 // The lesson on the input. One that could not be read to its end, or is too long, is told, and nothing is done of it.
 fn teach<R: Read>(rt: &(impl Print + Eprint), input: &mut R, bench: &mut [u8]) -> io::Result<()> {
     let mut lesson = [0u8; LESSON];
     let mut more = [0u8; 1];
-    let Ok(n) = read_full(input, &mut lesson) else {
+    let Ok(n) = inputs::read_full(input, &mut lesson) else {
         return eprintln!(rt; "bench: the lesson could not be read to its end");
     };
     match input.read(&mut more) {
@@ -277,7 +253,7 @@ fn teach<R: Read>(rt: &(impl Print + Eprint), input: &mut R, bench: &mut [u8]) -
 }
 
 // The bench, made of what the arguments name.
-fn begin(rt: &impl Env, bench: &mut [u8], cells: &[u8; 256]) -> Outcome {
+fn begin(rt: &impl Env, bench: &mut [u8], cells: &[u8; 256]) -> Result<(), Refusal> {
     bench::bench_new(
         bench,
         address_named(rt),
@@ -297,9 +273,7 @@ fn main(rt: HostRuntime) -> io::Result<()> {
         );
     }
     match begin(&rt, &mut bench, &cells) {
-        Outcome::Done => teach(&rt, &mut rt.stdin(), &mut bench),
-        Outcome::Refused(_) => {
-            eprintln!(rt; "bench: the address is two hexadecimal digits, 01 to FF")
-        }
+        Ok(()) => teach(&rt, &mut rt.stdin(), &mut bench),
+        Err(_) => { eprintln!(rt; "bench: the address is two hexadecimal digits, 01 to FF") }
     }
 }

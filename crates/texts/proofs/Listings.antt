@@ -4,18 +4,18 @@
 --     module_room                the room of the next module's line
 --     listing-fits               the longest listing
 -- Assumes nothing.
+use Rattle.std.specs.Prelude.{Option, Some, None, Ok, Err}
 use mathlib.Core.Path.{◌≡◌, refl, ap}
 use mathlib.Core.List.{List, [], ◌++◌}
 use mathlib.Core.Bool.{Bool, true, false}
 use Prim.Native.Nat.{ℕ, zero, suc, ◌+◌, ◌*◌, ◌%◌, ◌≤◌, ◌<◌}
 use native.Mathlib.Numerals.{add-one}
 use native.Mathlib.Omega.{arith}
-use lib.Dec.{leb, eqb}
+use lib.Dec.{leb}
 use lib.ListN.{length, replicate, length-append}
 use borrow.Author.Tests.{leb-true, leb-false}
 use Rattle.laws.proofs.Choices.{cond_elim}
-use Rattle.shape.specs.declared.answers.Answer.{Answer}
-use Rattle.shape.specs.declared.answers.Answer.TheVariants.{Value, NotHeard, Refused}
+use Rattle.shape.specs.Answers.{Answer}
 use Rattle.kinds.specs.Types.{extent_of}
 use Rattle.shape.specs.Limits.{addresses}
 use Rattle.places.specs.Places.{name_length}
@@ -24,7 +24,7 @@ use Rattle.questions.specs.Fills.{sum_to}
 use Rattle.questions.specs.Replies.{reply}
 use Rattle.texts.specs.Sheets.{is_whole, whole_name, whole_names, told_cells}
 use Rattle.texts.specs.Text.{Fits, Written}
-use Rattle.texts.specs.Lines.{header, broken_line, count_line}
+use Rattle.texts.specs.Lines.{header, count_line}
 use Rattle.texts.specs.Listing.{sheet_text, typed_text, module_text, modules_text, fault_text, listing_text}
 use Rattle.texts.specs.TextStatements.{line_room, ListingFits}
 use Rattle.texts.proofs.Texts.{room_rest, lines_are_short}
@@ -70,9 +70,9 @@ unfolding module_text sheet_text
 module_short b address = go (reply b address type_of []).answer
   where
     go : (r : Answer) → length (typed_text b address r) ≤ line_room
-    go (Value kind) = lines_are_short.1 (address % 256) (kind % 256) (whole_names b address (extent_of (kind % 256)).names) (told_cells b address (extent_of (kind % 256)).cells)
-    go NotHeard = omega arith
-    go (Refused n) = omega arith
+    go (Ok (Some kind)) = lines_are_short.1 (address % 256) (kind % 256) (whole_names b address (extent_of (kind % 256)).names) (told_cells b address (extent_of (kind % 256)).cells)
+    go (Ok None) = omega arith
+    go (Err n) = omega arith
 
 modules_short : (b : List ℕ) (n : ℕ) → length (modules_text b n) ≤ line_room * n
 unfolding modules_text
@@ -81,23 +81,23 @@ modules_short b (suc n) =
     let h : length (modules_text b n) ≤ line_room * n = modules_short b n in
     omega (arith, module_short b n, length-append (modules_text b n) (module_text b n))
 
-fault-short : (refusal offset : ℕ) → length (fault_text refusal offset) ≤ line_room
+fault-short : (fault : Option (ℕ × ℕ)) → length (fault_text fault) ≤ line_room
 unfolding fault_text
-fault-short refusal offset =
-    cond_elim (λ (l : List ℕ). length l ≤ line_room) (eqb refusal 0) [] (broken_line offset refusal) (λ _. omega arith) (λ _. lines_are_short.2 offset refusal)
+fault-short None = omega arith
+fault-short (Some (refusal, offset)) = lines_are_short.2 offset refusal
 
 pub listing-fits : ListingFits
 unfolding listing_text
 listing-fits b stream =
     let h : List ℕ = header in
     let m : List ℕ = modules_text b addresses in
-    let f : List ℕ = fault_text stream.refusal stream.offset in
+    let f : List ℕ = fault_text stream.fault in
     let c : List ℕ = count_line stream.heard stream.refused in
     omega (
       arith,
       lines_are_short.0,
       modules_short b addresses,
-      fault-short stream.refusal stream.offset,
+      fault-short stream.fault,
       lines_are_short.3 stream.heard stream.refused,
       length-append (h ++ m ++ f) c,
       length-append (h ++ m) f,

@@ -3,14 +3,16 @@ use Prim.Native.Nat.{ℕ, zero, suc, ◌+◌, ◌*◌, ◌/◌, ◌%◌, ◌≤�
 use native.Mathlib.Omega.{arith}
 use native.Mathlib.Numerals.{add-one}
 use mathlib.Core.Path.{◌≡◌, refl, sym, ap, ◌∙◌}
-use mathlib.Core.List.{List, [], ◌∷◌, ◌++◌}
+use mathlib.Core.List.{List, [], ◌++◌}
 use lib.ListN.{length, get_or, take, drop, length-append}
 use lib.Seq.{sets, take_at}
 use borrow.Author.Tests.{eq-eqb, ne_eqb, le-leb, lt-leb}
 use Rattle.laws.specs.Refusals.{too_short}
 use Rattle.laws.proofs.Stores.{sets_front}
-use Rattle.shape.specs.declared.answers.Answer.{Answer}
-use Rattle.shape.specs.declared.answers.Answer.TheVariants.{Value, NotHeard, Refused}
+use Rattle.std.specs.Prelude.{Some, Result, Ok, Err}
+use Rattle.laws.specs.declared.refusals.Refusal.{Refusal}
+use Rattle.laws.specs.Codes.{coded}
+use Rattle.shape.specs.Answers.{valued}
 use Rattle.shape.specs.Limits.{room}
 use Rattle.places.specs.Places.{places, cell_row}
 use Rattle.shape.specs.Layout.{size, place_at}
@@ -89,24 +91,17 @@ module _ (b : List ℕ) (a s : ℕ) (starts : List ℕ) (long : size ≤ length 
   plan_is : value (least_reads row) (plan_of row ++ drop (length (plan_of row)) starts) ≡ plan_reply b a starts
   plan_is = laid_done as_entries row starts plan-fits refl refl ∙ listed_says b a (λ s. laid as_entries (memory_in b s) starts) starts long d h
 
-  pub planned_so : {answer : Answer} {after : List ℕ} {count : ℕ} → answer ≡ (plan_reply b a starts).answer → after ≡ (plan_reply b a starts).buffer → answer ≡ Value count
-      → (count ≤ places / block) × (take count after ≡ plan_of row) × (length (plan_of row) ≡ count)
+  -- the call gives the plan
+  pub planned_so : {answer : Result ℕ Refusal} {after : List ℕ} → valued (coded answer) ≡ (plan_reply b a starts).answer → after ≡ (plan_reply b a starts).buffer
+      → (answer ≡ Ok (length (plan_of row))) × (length (plan_of row) ≤ places / block) × (take (length (plan_of row)) after ≡ plan_of row)
   unfolding least_reads
-  planned_so {answer} {after} {count} p q e =
-      let v : Value (least_reads row) ≡ Value count = ap (λ (r : Reply). r.answer) plan_is ∙ sym p ∙ e in
-      let n : count ≡ length (plan_of row) = cc in
+  planned_so {answer} {after} p q =
       let x : after ≡ plan_of row ++ drop (length (plan_of row)) starts = q ∙ sym (ap (λ (r : Reply). r.buffer) plan_is) in
-      (omega (arith, plan-fits), rw (n, x) (take_at (plan_of row) (drop (length (plan_of row)) starts) (length (plan_of row)) refl), sym n)
-
-  pub never_unheard : {A : Type 0} {answer : Answer} → answer ≡ (plan_reply b a starts).answer → answer ≡ NotHeard → A
-  never_unheard p e =
-      let v : Value (least_reads row) ≡ NotHeard = ap (λ (r : Reply). r.answer) plan_is ∙ sym p ∙ e in
-      absurd (let z : ◌≡◌ {A = ℕ} 0 1 = cc in omega arith)
-
-  pub never_refused : {A : Type 0} {answer : Answer} {n : ℕ} → answer ≡ (plan_reply b a starts).answer → answer ≡ Refused n → A
-  never_refused {n = n} p e =
-      let v : Value (least_reads row) ≡ Refused n = ap (λ (r : Reply). r.answer) plan_is ∙ sym p ∙ e in
-      absurd (let z : ◌≡◌ {A = ℕ} 0 1 = cc in omega arith)
+      (go answer (p ∙ sym (ap (λ (r : Reply). r.answer) plan_is)), omega (arith, plan-fits), rw x (take_at (plan_of row) (drop (length (plan_of row)) starts) (length (plan_of row)) refl))
+    where
+      go : (r : Result ℕ Refusal) → valued (coded r) ≡ Ok (Some (length (plan_of row))) → r ≡ Ok (length (plan_of row))
+      go (Ok n) e = cc
+      go (Err n) e = cc
 
 -- ---- the line at a buffer's front
 module _ (address : ℕ) (row out : List ℕ) where

@@ -17,9 +17,8 @@ use Rattle.laws.specs.Refusals.{too_short}
 use Rattle.laws.specs.Copies.{copied_in}
 use Rattle.shape.specs.Layout.{size}
 use Rattle.shape.specs.Limits.{addresses}
-use Rattle.recorder.specs.declared.writes.Put.{Put}
-use Rattle.recorder.specs.declared.writes.Put.TheVariants as put
-use Rattle.replay.specs.declared.window.Stream.{Stream}
+use Rattle.std.specs.Prelude.{Result, Ok, Err}
+use Rattle.replay.specs.Window.{Stream}
 use Rattle.texts.specs.Text.{Fits, Written}
 use Rattle.texts.specs.Listing.{listing_text, listing_answer, listing_bytes}
 use Rattle.texts.specs.TextStatements.{line_room, PutIsInside}
@@ -31,21 +30,21 @@ module _ (b out : List ℕ) (stream : Stream) where
   abbrev text : List ℕ
   text = listing_text b stream
 
-  abbrev pub ListingIs : Put → List ℕ → Type 0
+  abbrev pub ListingIs : Result ℕ ℕ → List ℕ → Type 0
   ListingIs answer after = (answer ≡ listing_answer b out stream) × (after ≡ listing_bytes b out stream)
 
-  pub listing_no_picture : length b < size → ListingIs (put.Refused too_short) out
+  pub listing_no_picture : length b < size → ListingIs (Err too_short) out
   unfolding listing_answer listing_bytes
   listing_no_picture h = let e = lt-ltb (length b) size h in (rw e, rw e)
 
-  pub listing_no_room : size ≤ length b → length out < length text → ListingIs (put.Refused too_short) out
+  pub listing_no_room : size ≤ length b → length out < length text → ListingIs (Err too_short) out
   unfolding listing_answer listing_bytes
   listing_no_room h l =
       let e = le-ltb (length b) size h in
       let f = lt-leb (length text) (length out) l in
       (rw (e, f), rw (e, f))
 
-  pub listing-put : size ≤ length b → length text ≤ length out → ListingIs (put.Wrote (length text)) (text ++ drop (length text) out)
+  pub listing-put : size ≤ length b → length text ≤ length out → ListingIs (Ok (length text)) (text ++ drop (length text) out)
   unfolding listing_answer listing_bytes
   listing-put h l =
       let e = le-ltb (length b) size h in
@@ -62,12 +61,12 @@ module _ (b out : List ℕ) (stream : Stream) where
         let e = room_is_enough out 0 text after n (omega (arith, listing-fits b stream)) w in
         (omega (arith, e.0), e.1 ∙ ap (λ (k : ℕ). text ++ drop k out) (zero-add (length text)))
 
-    pub listing_at_once : size ≤ length b → ListingIs (put.Wrote n) after
-    listing_at_once h = let p = listing-put h (omega (arith, listing-fits b stream)) in (ap put.Wrote listing_whole.0 ∙ p.0, listing_whole.1 ∙ p.1)
+    pub listing_at_once : size ≤ length b → ListingIs (Ok n) after
+    listing_at_once h = let p = listing-put h (omega (arith, listing-fits b stream)) in (ap Ok listing_whole.0 ∙ p.0, listing_whole.1 ∙ p.1)
 
 -- made in such a buffer first, and then copied into one that it fits
 pub listing-copied : (b out room after : List ℕ) (n : ℕ) (stream : Stream) → size ≤ length b → line_room * (addresses + 3) ≤ length room
-    → Written room 0 (listing_text b stream) after n → n ≤ length out → ListingIs b out stream (put.Wrote n) (copied_in out 0 (take (n - 0) (drop 0 after)))
+    → Written room 0 (listing_text b stream) after n → n ≤ length out → ListingIs b out stream (Ok n) (copied_in out 0 (take (n - 0) (drop 0 after)))
 unfolding copied_in
 listing-copied b out room after n stream h large w fits =
     let text : List ℕ = listing_text b stream in
@@ -75,12 +74,12 @@ listing-copied b out room after n stream h large w fits =
     let p = listing-put b out stream h (omega (arith, whole.0)) in
     let same : take (n - 0) (drop 0 after) ≡ text = (λ i. take (n - 0) (drop 0 (whole.1 i))) ∙ take_at text (drop (length text) room) (n - 0) (omega (arith, whole.0)) in
     let copied : copied_in out 0 text ≡ text ++ drop (length text) out = (rw (le-leb (0 + length text) (length out) (omega (arith, whole.0)))) ∙ sets-eq text out 0 (omega (arith, whole.0)) ∙ ap (λ (k : ℕ). text ++ drop k out) (zero-add (length text)) in
-    (ap put.Wrote whole.0 ∙ p.0, ap (copied_in out 0) same ∙ copied ∙ p.1)
+    (ap Ok whole.0 ∙ p.0, ap (copied_in out 0) same ∙ copied ∙ p.1)
 
 pub put_is_inside : PutIsInside
 unfolding listing_answer
 put_is_inside b out stream n =
     let k : ℕ = length (listing_text b stream) in
-    cond_elim (λ (p : Put). p ≡ put.Wrote n → n ≤ length out) (ltb (length b) size) _ _ (λ _ e. absurd (different cc))
-    (λ _. cond_elim (λ (p : Put). p ≡ put.Wrote n → n ≤ length out) (leb k (length out)) _ _
+    cond_elim (λ (p : Result ℕ ℕ). p ≡ Ok n → n ≤ length out) (ltb (length b) size) _ _ (λ _ e. absurd (different cc))
+    (λ _. cond_elim (λ (p : Result ℕ ℕ). p ≡ Ok n → n ≤ length out) (leb k (length out)) _ _
     (λ fits e. let same : k ≡ n = cc in omega (arith, leb-true k (length out) fits)) (λ _ e. absurd (different cc)))

@@ -1,7 +1,6 @@
 -- What the listing counts of a module.
-use Rattle.std.specs.Prelude.{ℕ, ◌+◌, List, [], Bool, false, cond, eqb, replicate}
-use Rattle.shape.specs.declared.answers.Answer.{Answer}
-use Rattle.shape.specs.declared.answers.Answer.TheVariants.{Value, NotHeard, Refused}
+use Rattle.std.specs.Prelude.{ℕ, ◌+◌, List, [], Bool, false, cond, eqb, replicate, Some, None, Ok, Err}
+use Rattle.shape.specs.Answers.{Answer}
 use Rattle.shape.specs.Limits.{not_heard}
 use Rattle.places.specs.Places.{name_length}
 use Rattle.questions.specs.Question.{cell, name_row}
@@ -11,18 +10,18 @@ use Rattle.replay.specs.Replay.{one}
 
 -- 1 for a name that is whole: all its characters are heard
 abbrev pub is_whole : Answer → Bool
-is_whole (Value heard) = eqb heard name_length
-is_whole NotHeard = false
-is_whole (Refused n) = false
+is_whole (Ok (Some heard)) = eqb heard name_length
+is_whole (Ok None) = false
+is_whole (Err n) = false
 
 unfoldable pub whole_name : List ℕ → ℕ → ℕ → ℕ
 whole_name b address name = one (is_whole (reply b address (name_row name) (replicate name_length 0)).answer)
 
 -- 1 for a value, 0 for not heard and for no place
 abbrev pub told_if : Answer → ℕ
-told_if (Value v) = 1
-told_if NotHeard = 0
-told_if (Refused n) = 0
+told_if (Ok (Some v)) = 1
+told_if (Ok None) = 0
+told_if (Err n) = 0
 
 -- the same of a number in a row
 abbrev pub told_number : ℕ → ℕ

@@ -1,8 +1,7 @@
 -- What holds of the listing's text; proofs/ proves each statement.
-use Rattle.std.specs.Prelude.{ℕ, ◌+◌, ◌*◌, ◌≤◌, ◌≡◌, List, ◌++◌, length, take, drop}
+use Rattle.std.specs.Prelude.{ℕ, ◌+◌, ◌*◌, ◌≤◌, ◌≡◌, List, ◌++◌, length, take, drop, Ok}
 use Rattle.shape.specs.Limits.{addresses}
-use Rattle.recorder.specs.declared.writes.Put.TheVariants.{Wrote}
-use Rattle.replay.specs.declared.window.Stream.{Stream}
+use Rattle.replay.specs.Window.{Stream}
 use Rattle.texts.specs.Text.{Written, letters}
 use Rattle.texts.specs.Lines.{header, module_line, broken_line, count_line}
 use Rattle.texts.specs.Listing.{listing_text, listing_answer}
@@ -35,7 +34,7 @@ ListingFits = (b : List ℕ) (stream : Stream) → length (listing_text b stream
 
 -- and what was put lies in the buffer
 abbrev pub PutIsInside : Type 0
-PutIsInside = (b out : List ℕ) (stream : Stream) (n : ℕ) → listing_answer b out stream ≡ Wrote n → n ≤ length out
+PutIsInside = (b out : List ℕ) (stream : Stream) (n : ℕ) → listing_answer b out stream ≡ Ok n → n ≤ length out
 
 -- the paper's listings: of the whole case, and of an empty recording; and the end of one that breaks off
 abbrev pub ListingsRight : Type 0

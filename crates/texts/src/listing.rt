@@ -1,5 +1,8 @@
 // The listing of a picture, with the counts and the fault of the recording that it heard.
-ghost use Rattle.std.specs.Prelude.{◌≡◌, ◌≤◌, length};
+ghost use Rattle.std.specs.Prelude.{option_map, ◌≡◌, ◌≤◌, length};
+ghost use Rattle.laws.specs.Codes.{coded};
+ghost use Rattle.recording.specs.Record.{told_fault};
+ghost use Rattle.replay.specs.Window.{told_stream};
 ghost use Rattle.shape.specs.Layout.{size};
 ghost use Rattle.shape.specs.Limits.{addresses};
 ghost use Rattle.texts.specs.Text.{Fits, Written};
@@ -7,11 +10,11 @@ ghost use Rattle.texts.specs.Listing.{sheet_text, module_text, modules_text, fau
 
 use crate::lines::{put_broken_line, put_count_line, put_header, put_module_line};
 use crate::sheets::{told_cells, whole_names};
-use laws::{TOO_SHORT, copy_in, wide32};
+use laws::{Refusal, copy_in, wide32};
 use questions::AddressAsked;
-use recorder::Put;
+use recording::Fault;
 use replay::Stream;
-use shape::{ADDRESSES, Answer, SIZE};
+use shape::{ADDRESSES, SIZE};
 
 // The room that the longest listing takes: that of the longest line for each address and for three lines more.
 const LINE_ROOM: usize = 65;
@@ -35,9 +38,8 @@ fn put_module(picture: &[u8], out: &mut [u8], at: usize, address: u32) -> usize
     ensures { Written out.old at (module_text picture.now address) out.new result }
 {
     match questions::type_of(picture, AddressAsked(address)) {
-        Answer::Value(kind) => put_sheet(picture, out, at, address, (kind % 256) as u8),
-        Answer::NotHeard => at,
-        Answer::Refused(_) => at,
+        Ok(kind) => put_sheet(picture, out, at, address, (kind % 256) as u8),
+        Err(_) => at,
     }
 }
 
@@ -47,63 +49,59 @@ fn put_modules(picture: &[u8], out: &mut [u8], at: usize) -> usize
     ensures { Written out.old at (modules_text picture.now addresses) out.new result }
 {
     let mut next = at;
-    let mut address: u32 = 0;
-    while address < ADDRESSES {
+    for address in 0..ADDRESSES {
         next = put_module(picture, out, next, address);
-        address += 1;
     }
     next
 }
 
 // The line of a fault, nothing where there is none.
-fn put_fault(out: &mut [u8], at: usize, refusal: u16, offset: u64) -> usize
-    requires { Fits out.old at (fault_text refusal offset) }
-    ensures { Written out.old at (fault_text refusal offset) out.new result }
+fn put_fault(out: &mut [u8], at: usize, fault: Option<Fault>) -> usize
+    requires { Fits out.old at (fault_text (option_map told_fault fault)) }
+    ensures { Written out.old at (fault_text (option_map told_fault fault)) out.new result }
 {
-    if refusal == 0 {
-        return at;
+    match fault {
+        Some(fault) => put_broken_line(out, at, fault.offset as u64, fault.refusal.code() as u64),
+        None => at,
     }
-    put_broken_line(out, at, offset, refusal as u64)
 }
 
 // The whole listing, from the buffer's first byte; the answer is the place past it.
 fn put_lines(picture: &[u8], out: &mut [u8], stream: Stream) -> usize
-    requires { Fits out.old 0 (listing_text picture.now stream) }
-    ensures { Written out.old 0 (listing_text picture.now stream) out.new result }
+    requires { Fits out.old 0 (listing_text picture.now (told_stream stream)) }
+    ensures { Written out.old 0 (listing_text picture.now (told_stream stream)) out.new result }
 {
     let modules = put_header(out, 0);
     let fault = put_modules(picture, out, modules);
-    let refusal = stream.refusal;
-    let counts = put_fault(out, fault, refusal, stream.offset);
+    let counts = put_fault(out, fault, stream.fault);
     put_count_line(out, counts, stream.heard, stream.refused)
 }
 
 // The listing in a buffer that may be too short for it: made in room of its own first, and then copied whole or not at all.
-fn put_if_it_fits(picture: &[u8], out: &mut [u8], stream: Stream) -> Put
+fn put_if_it_fits(picture: &[u8], out: &mut [u8], stream: Stream) -> Result<usize, Refusal>
     requires { size ≤ length picture.now }
-    ensures value { result ≡ listing_answer picture.now out.old stream }
-    ensures out_after { out.new ≡ listing_bytes picture.now out.old stream }
+    ensures value { coded result ≡ listing_answer picture.now out.old (told_stream stream) }
+    ensures out_after { out.new ≡ listing_bytes picture.now out.old (told_stream stream) }
 {
     let mut room = [0u8; LISTING_ROOM];
     let n = put_lines(picture, &mut room, stream);
     if n <= out.len() {
         copy_in(out, 0, &room[0..n]);
-        return Put::Wrote(n);
+        return Ok(n);
     }
-    Put::Refused(TOO_SHORT)
+    Err(Refusal::TooShort)
 }
 
 // Puts the whole listing at the buffer's front. A buffer of LISTING_ROOM bytes holds any listing.
-pub fn put_listing(picture: &[u8], out: &mut [u8], stream: Stream) -> Put
-    ensures value { result ≡ listing_answer picture.now out.old stream }
-    ensures out_after { out.new ≡ listing_bytes picture.now out.old stream }
+pub fn put_listing(picture: &[u8], out: &mut [u8], stream: Stream) -> Result<usize, Refusal>
+    ensures value { coded result ≡ listing_answer picture.now out.old (told_stream stream) }
+    ensures out_after { out.new ≡ listing_bytes picture.now out.old (told_stream stream) }
 {
     if picture.len() < SIZE {
-        return Put::Refused(TOO_SHORT);
+        return Err(Refusal::TooShort);
     }
     if out.len() < LISTING_ROOM {
         return put_if_it_fits(picture, out, stream);
     }
-    let n = put_lines(picture, out, stream);
-    Put::Wrote(n)
+    Ok(put_lines(picture, out, stream))
 }

@@ -1,5 +1,7 @@
 // The line of a module's plan of reads.
 ghost use Rattle.std.specs.Prelude.{◌≡◌, ◌/◌, ◌<◌, ◌≤◌, length, take};
+ghost use Rattle.laws.specs.Codes.{coded};
+ghost use Rattle.shape.specs.Answers.{valued};
 ghost use Rattle.shape.specs.Limits.{room};
 ghost use Rattle.places.specs.Places.{places};
 ghost use Rattle.shape.specs.Layout.{size};
@@ -12,10 +14,9 @@ ghost use Rattle.texts.specs.Plans.{start_text, starts_text, reads_line, plan_li
 
 use crate::lines::put_numbered;
 use crate::text::{put_byte, put_hex, put_text};
-use laws::{TOO_SHORT, TYPE_NOT_KNOWN};
+use laws::Refusal;
 use places::PLACES;
-use questions::{AddressAsked, slot_asked};
-use shape::{Answer, ROOM, SIZE};
+use questions::{AddressAsked, module_asked};
 
 // The most starts of a plan: one for each block of four cells.
 const MOST_STARTS: usize = PLACES / 4;
@@ -37,10 +38,8 @@ fn put_starts(out: &mut [u8], at: usize, starts: &[u16]) -> usize
     ensures { Written out.old at (starts_text starts.now (length starts.now)) out.new result }
 {
     let mut next = at;
-    let mut i: usize = 0;
-    while i < starts.len() {
-        next = put_start(out, next, starts[i]);
-        i += 1;
+    for start in starts {
+        next = put_start(out, next, *start);
     }
     next
 }
@@ -72,40 +71,35 @@ fn planned(picture: &[u8], slot: u8, address: AddressAsked, starts: &mut [u16]) 
     requires { (size ≤ length picture.now) × (slot < room) × (slot ≡ slot_asked picture.now address.0) × (length starts.old ≡ places / block) }
     ensures { (result ≤ places / block) × (take result starts.new ≡ plan_of (memory_in picture.now slot)) × (length (plan_of (memory_in picture.now slot)) ≡ result) }
 {
-    match plan::plan(picture, address, starts) {
-        Answer::Value(count) => count as usize,
-        Answer::NotHeard => 0,
-        Answer::Refused(_) => 0,
-    }
+    let count = plan::plan(picture, address, starts).unwrap();
+    count as usize
 }
 
 // Of the module in a slot, which is that of the address.
-fn put_plan_in(picture: &[u8], slot: u8, address: AddressAsked, out: &mut [u8]) -> Answer
+fn put_plan_in(
+    picture: &[u8],
+    slot: u8,
+    address: AddressAsked,
+    out: &mut [u8],
+) -> Result<u16, Refusal>
     requires { (size ≤ length picture.now) × (slot < room) × (slot ≡ slot_asked picture.now address.0) }
-    ensures value { result ≡ (lined address.0 (memory_in picture.now slot) out.old).answer }
+    ensures value { valued (coded result) ≡ (lined address.0 (memory_in picture.now slot) out.old).answer }
     ensures out_after { out.new ≡ (lined address.0 (memory_in picture.now slot) out.old).buffer }
 {
     if out.len() < PLAN_ROOM {
-        return Answer::Refused(TOO_SHORT);
+        return Err(Refusal::TooShort);
     }
     let number = address.0;
     let mut starts = [0u16; MOST_STARTS];
     let count = planned(picture, slot, address, &mut starts);
-    Answer::Value(put_plan_line(out, 0, (number % 256) as u8, &starts[..count]) as u16)
+    Ok(put_plan_line(out, 0, (number % 256) as u8, &starts[..count]) as u16)
 }
 
 // The line of the module at an address, at the front of a buffer of PLAN_ROOM bytes or more, and how many bytes it is.
-pub fn put_plan(picture: &[u8], address: AddressAsked, out: &mut [u8]) -> Answer
-    ensures value { result ≡ (line_reply picture.now address.0 out.old).answer }
+pub fn put_plan(picture: &[u8], address: AddressAsked, out: &mut [u8]) -> Result<u16, Refusal>
+    ensures value { valued (coded result) ≡ (line_reply picture.now address.0 out.old).answer }
     ensures out_after { out.new ≡ (line_reply picture.now address.0 out.old).buffer }
 {
-    if picture.len() < SIZE {
-        return Answer::Refused(TOO_SHORT);
-    }
-    let slot = slot_asked(picture, address);
-    if slot < ROOM {
-        put_plan_in(picture, slot, address, out)
-    } else {
-        Answer::Refused(TYPE_NOT_KNOWN)
-    }
+    let slot = module_asked(picture, address)?;
+    put_plan_in(picture, slot, address, out)
 }

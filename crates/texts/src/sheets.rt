@@ -6,7 +6,7 @@ ghost use Rattle.replay.specs.Replay.{one};
 ghost use Rattle.texts.specs.Sheets.{whole_name, told_number, whole_names, told_cells};
 
 use questions::AddressAsked;
-use shape::{Answer, NOT_HEARD};
+use shape::NOT_HEARD;
 
 // The length of a name.
 const NAME_LENGTH: usize = places::NAME_LENGTH as usize;
@@ -24,9 +24,8 @@ fn whole_name(picture: &[u8], address: u32, name: u32) -> u64
 {
     let mut row = [0u16; NAME_LENGTH];
     match questions::name(picture, AddressAsked(address), name, &mut row) {
-        Answer::Value(count) => all_heard(count),
-        Answer::NotHeard => 0,
-        Answer::Refused(_) => 0,
+        Ok(count) => all_heard(count),
+        Err(_) => 0,
     }
 }
 
@@ -43,10 +42,8 @@ fn told_in(row: &[u16], n: usize) -> u64
     ensures { result ≡ sum_to (λ i. told_number (get_or row.now i 0)) n }
 {
     let mut count: u64 = 0;
-    let mut i: usize = 0;
-    while i < n {
-        count = count + told(row[i]);
-        i += 1;
+    for number in &row[..n] {
+        count += told(*number);
     }
     count
 }
@@ -56,10 +53,8 @@ pub fn whole_names(picture: &[u8], address: u32, n: u32) -> u64
     ensures { result ≡ whole_names picture.now address n }
 {
     let mut count: u64 = 0;
-    let mut i: u32 = 0;
-    while i < n {
-        count = count + whole_name(picture, address, i + 1);
-        i += 1;
+    for i in 0..n {
+        count += whole_name(picture, address, i + 1);
     }
     count
 }
@@ -70,6 +65,6 @@ pub(crate) fn told_cells(picture: &[u8], address: u32, n: u32) -> u64
     ensures { result ≡ told_cells picture.now address n }
 {
     let mut row: [u16; 256] = [NOT_HEARD; 256];
-    questions::memory_row(picture, AddressAsked(address), &mut row);
+    let _refused = questions::memory_row(picture, AddressAsked(address), &mut row);
     told_in(&row, n as usize)
 }

@@ -2,8 +2,14 @@
 use crate::text::{item, part, past};
 use crate::words::TYPES;
 use itoa::Buffer;
-use laws::byte_at;
-use shape::{Answer, NOT_HEARD};
+use laws::{Refusal, byte_at};
+use shape::NOT_HEARD;
+
+// What comes of a question: a number, None where the place is not heard, or a refusal.
+pub(crate) type Answer = Result<Option<u16>, Refusal>;
+
+// What comes of a call; None where it is not made, as it asks for more than there is room for.
+pub(crate) type Called<T> = Option<Result<T, Refusal>>;
 
 // The most bytes of an answer in words.
 pub const WORDS: usize = 512;
@@ -12,6 +18,11 @@ pub const WORDS: usize = 512;
 pub struct Words {
     pub bytes: [u8; WORDS],
     pub count: usize,
+}
+
+// The bytes of an answer.
+pub(crate) fn said(w: &Words) -> &[u8] {
+    part(&w.bytes, 0, w.count)
 }
 
 pub(crate) fn add(w: Words, s: &[u8]) -> Words {
@@ -75,12 +86,9 @@ fn add_letter(w: Words, before: u8, b: u8, next: u8) -> Words {
 pub(crate) fn say_text(text: &[u8]) -> Words {
     let mut w = say(b"");
     let mut before = 0;
-    let mut i = 0;
-    while i < text.len() {
-        let b = text[i];
-        i += 1;
-        w = add_letter(w, before, b, byte_at(text, i));
-        before = b;
+    for (i, b) in text.iter().enumerate() {
+        w = add_letter(w, before, *b, byte_at(text, i + 1));
+        before = *b;
     }
     w
 }
@@ -105,18 +113,15 @@ fn add_character(w: Words, before: u8, n: u16, next: u8) -> Words {
 pub(crate) fn add_characters(begun: Words, row: &[u16]) -> Words {
     let mut w = begun;
     let mut before = 0;
-    let mut i = 0;
-    while i < row.len() {
-        let n = row[i];
-        i += 1;
-        w = add_character(w, before, n, letter_at(row, i));
-        before = letter_of(n);
+    for (i, n) in row.iter().enumerate() {
+        w = add_character(w, before, *n, letter_at(row, i + 1));
+        before = letter_of(*n);
     }
     w
 }
 
-// A refusal, a 9 with its byte.
-pub(crate) fn refused(code: u16) -> Words {
+// A refusal as one number, a 9 with its byte.
+pub(crate) fn refused_with(code: u16) -> Words {
     let w = add_decimal(say(b" refused"), repair::number_in(code) as u64);
     let byte = repair::byte_in(code);
     if byte == 0 {
@@ -125,12 +130,20 @@ pub(crate) fn refused(code: u16) -> Words {
     add_decimal(add(w, b" at byte"), byte as u64)
 }
 
-// What comes of a call that answers 0, or a refusal.
-pub(crate) fn outcome(code: u16) -> Words {
-    if code == 0 {
-        return say(b" done");
+pub(crate) fn refused(refusal: Refusal) -> Words {
+    refused_with(refusal.code())
+}
+
+// Where there is no refusal to tell of: a call is not made, or calls that are to be refused alike are not. No refusal has this number.
+pub(crate) fn unanswered() -> Words {
+    say(b" refused 255")
+}
+
+pub(crate) fn outcome(done: Result<(), Refusal>) -> Words {
+    match done {
+        Ok(()) => say(b" done"),
+        Err(refusal) => refused(refusal),
     }
-    refused(code)
 }
 
 // The item of a list, after a space.
@@ -154,10 +167,10 @@ fn cell(v: u16) -> Words {
 pub(crate) fn value(letter: u8, v: u16) -> Words {
     match letter {
         b'T' => say_item(&TYPES, v),
-        b'L' => say_item(b"off/on/slow/fast/very fast/", v),
-        b'I' => say_item(b"off/up/down/", v),
-        b'A' => say_item(b"no/yes/", v),
-        b'Q' => say_item(b"wrong/right/", v),
+        b'L' => say_item(b"off/on/slow/fast/very fast", v),
+        b'I' => say_item(b"off/up/down", v),
+        b'A' => say_item(b"no/yes", v),
+        b'Q' => say_item(b"wrong/right", v),
         b'n' => add(add_decimal(say(b""), v as u64), b" heard"),
         b'q' => add(add_decimal(say(b""), v as u64), b" reads"),
         b'C' | b'R' => cell(v),
@@ -167,8 +180,8 @@ pub(crate) fn value(letter: u8, v: u16) -> Words {
 
 pub(crate) fn answer(letter: u8, a: Answer) -> Words {
     match a {
-        Answer::Value(v) => value(letter, v),
-        Answer::NotHeard => say(b" not heard"),
-        Answer::Refused(n) => refused(n),
+        Ok(Some(v)) => value(letter, v),
+        Ok(None) => say(b" not heard"),
+        Err(refusal) => refused(refusal),
     }
 }

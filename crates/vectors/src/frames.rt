@@ -1,14 +1,12 @@
 // What the reader and the writer make of frames, by the calls that C has.
-use crate::answers::{Words, add, add_byte, add_bytes, add_item, refused, say};
+use crate::answers::{Words, add, add_byte, add_bytes, add_item, refused_with, said, say};
 use crate::text::{part, past};
 use crate::words::{FLAGS, PRIORITIES, Reader};
 
 // A result word from here on holds a refusal, a 9 with its byte, in these units.
 const REFUSAL: u32 = 65536;
 
-// What comes of reading besides a refusal: what was read is written as the same frame, or not.
-const KEPT: u16 = 0;
-
+// What is shown as a number where a frame is read and written as another: no refusal has this number.
 const CHANGED: u16 = 100;
 
 // Identifiers of address H'2A' at lowest and highest priority, and at those that no frame has.
@@ -23,120 +21,109 @@ const THIRD: u32 = 1108;
 // A type that is none.
 const OTHER_TYPE: u32 = 0x0B;
 
-// A message, or a frame, in the layout of docs/INTERFACE.md, or the number of the refusal in its place.
-#[derive(Drop)]
-struct ReadAs {
-    refusal: u16,
-    message: [u8; 20],
+// A frame that is read, and what was read written: the same frame, or another.
+#[derive(Clone, Copy, PartialEq, Eq)]
+enum Rewritten {
+    Kept,
+    Changed,
 }
 
-#[derive(Drop)]
-struct WrittenAs {
-    refusal: u16,
-    frame: [u8; 12],
+// A refusal as one number, a 9 with its byte, as a result word of C holds it.
+type Code = u16;
+
+fn done(word: u32) -> Result<(), Code> {
+    match (word / REFUSAL) as u16 {
+        0 => Ok(()),
+        code => Err(code),
+    }
 }
 
-fn refusal(word: u32) -> u16 {
-    (word / REFUSAL) as u16
-}
-
-fn message_of(kind: u32, identifier: u32, remote: u32, data: &[u8]) -> ReadAs {
+// A message, and a frame, in the layout of docs/INTERFACE.md.
+fn message_of(kind: u32, identifier: u32, remote: u32, data: &[u8]) -> Result<[u8; 20], Code> {
     let mut message = [0u8; 20];
-    let word = velbus::velbus_read(kind, identifier, remote, data, &mut message);
-    ReadAs {
-        refusal: refusal(word),
-        message,
-    }
+    done(velbus::velbus_read(kind, identifier, remote, data, &mut message))?;
+    Ok(message)
 }
 
-fn frame_of(kind: u32, message: &[u8; 20]) -> WrittenAs {
+fn frame_of(kind: u32, message: &[u8; 20]) -> Result<[u8; 12], Code> {
     let mut frame = [0u8; 12];
-    let word = velbus::velbus_write(kind, message, &mut frame);
-    WrittenAs {
-        refusal: refusal(word),
-        frame,
-    }
+    done(velbus::velbus_write(kind, message, &mut frame))?;
+    Ok(frame)
 }
 
 // A frame in the layout of docs/INTERFACE.md: identifier, remote flag, count, and the data with zeros after them.
 fn laid(identifier: u32, remote: u32, data: &[u8]) -> [u8; 12] {
-    let mut out = [
+    let head = [
         (identifier % 256) as u8,
         (identifier / 256 % 256) as u8,
         (remote % 256) as u8,
         (data.len() % 256) as u8,
-        0,
-        0,
-        0,
-        0,
-        0,
-        0,
-        0,
-        0,
     ];
+    let mut out = [0u8; 12];
+    laws::copy_in(&mut out, 0, &head);
     laws::copy_in(&mut out, 4, data);
     out
 }
 
-fn read_number(kind: u32, identifier: u32, remote: u32, data: &[u8]) -> u16 {
-    let r = message_of(kind, identifier, remote, data);
-    if r.refusal != 0 {
-        return r.refusal;
-    }
-    let message = r.message;
-    let frame = frame_of(kind, &message).frame;
-    if frame == laid(identifier, remote, data) {
-        KEPT
+fn try_frame(kind: u32, identifier: u32, remote: u32, data: &[u8]) -> Result<Rewritten, Code> {
+    let message = message_of(kind, identifier, remote, data)?;
+    if frame_of(kind, &message) == Ok(laid(identifier, remote, data)) {
+        Ok(Rewritten::Kept)
     } else {
-        CHANGED
+        Ok(Rewritten::Changed)
     }
 }
 
 pub(crate) fn read(r: Reader, data: &[u8]) -> Words {
-    let n = read_number(r.a, r.b, r.c, data);
-    match n {
-        KEPT => say(b" kept"),
-        CHANGED => say(b" changed"),
-        _ => refused(n),
+    match try_frame(r.a, r.b, r.c, data) {
+        Ok(Rewritten::Kept) => say(b" kept"),
+        Ok(Rewritten::Changed) => say(b" changed"),
+        Err(code) => refused_with(code),
+    }
+}
+
+// What comes of reading as one number: that of the refusal, 0 for kept.
+fn shown(tried: Result<Rewritten, Code>) -> u16 {
+    match tried {
+        Ok(Rewritten::Kept) => 0,
+        Ok(Rewritten::Changed) => CHANGED,
+        Err(code) => code,
     }
 }
 
 // The same of a frame with one byte after the data.
-fn ended(r: Reader, data: &[u8], last: u8) -> u16 {
+fn ended(r: Reader, data: &[u8], last: u8) -> Result<Rewritten, Code> {
     let mut room = [0u8; 9];
     laws::copy_in(&mut room, 0, data);
     laws::copy_in(&mut room, data.len(), &[last]);
-    read_number(r.a, r.b, r.c, part(&room, 0, past(data.len(), 1)))
+    try_frame(r.a, r.b, r.c, part(&room, 0, past(data.len(), 1)))
 }
 
-// What comes of all so far that are not kept, and of one more.
-fn alike(others: u16, n: u16) -> u16 {
-    if others == KEPT {
-        return n;
+// What comes of all so far, kept ones left out, and of one more that is not kept.
+fn alike(others: Result<Rewritten, Code>, one: Result<Rewritten, Code>) -> Result<Rewritten, Code> {
+    if others == Ok(Rewritten::Kept) || others == one {
+        one
+    } else {
+        Ok(Rewritten::Changed)
     }
-    if others == n { n } else { CHANGED }
 }
 
 // Each value of a byte after the data: with which of them the frame is kept, and what comes of all others.
 pub(crate) fn each(r: Reader, data: &[u8]) -> Words {
     let mut kept = say(b" kept with");
-    let mut others = KEPT;
+    let mut others = Ok(Rewritten::Kept);
     for last in 0..=u8::MAX {
-        let n = ended(r, data, last);
-        if n == KEPT {
-            kept = add_byte(kept, last);
-        } else {
-            others = alike(others, n);
+        match ended(r, data, last) {
+            Ok(Rewritten::Kept) => kept = add_byte(kept, last),
+            one => others = alike(others, one),
         }
     }
-    let w = refused(others);
-    let bytes = w.bytes;
-    add(add(kept, b" else"), part(&bytes, 0, w.count))
+    add(add(kept, b" else"), said(&refused_with(shown(others))))
 }
 
 // What comes of reading, without the byte of a 9, which no layout is refused for.
 fn number(kind: u32, identifier: u32, remote: u32, data: &[u8]) -> u8 {
-    (read_number(kind, identifier, remote, data) % 256) as u8
+    (shown(try_frame(kind, identifier, remote, data)) % 256) as u8
 }
 
 // The data with the last byte left out.
@@ -191,22 +178,18 @@ pub(crate) fn documented(r: Reader, data: &[u8]) -> Words {
 
 // How many bytes a message has without the zeros at its end.
 fn used(message: &[u8; 20]) -> usize {
-    let mut n: usize = 20;
-    while n > 0 && message[n - 1] == 0 {
-        n -= 1;
-    }
-    n
+    message
+        .iter()
+        .rposition(|b| *b != 0)
+        .map_or(0, |last| past(last, 1))
 }
 
 // The message that a frame is read as, in the layout of docs/INTERFACE.md, without the zeros at its end.
 pub(crate) fn layout(r: Reader, data: &[u8]) -> Words {
-    let m = message_of(r.a, r.b, r.c, data);
-    if m.refusal != 0 {
-        return refused(m.refusal);
+    match message_of(r.a, r.b, r.c, data) {
+        Ok(message) => add_bytes(say(b""), part(&message, 0, used(&message))),
+        Err(code) => refused_with(code),
     }
-    let message = m.message;
-    let n = used(&message);
-    add_bytes(say(b""), part(&message, 0, n))
 }
 
 // The words for an identifier and a remote flag; a frame that is written has an even identifier.
@@ -241,10 +224,8 @@ pub(crate) fn write(r: Reader, message: &[u8]) -> Words {
     }
     let mut whole = [0u8; 20];
     laws::copy_in(&mut whole, 0, message);
-    let w = frame_of(r.a, &whole);
-    if w.refusal != 0 {
-        return refused(w.refusal);
+    match frame_of(r.a, &whole) {
+        Ok(frame) => framed(&frame),
+        Err(code) => refused_with(code),
     }
-    let frame = w.frame;
-    framed(&frame)
 }

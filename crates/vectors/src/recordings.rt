@@ -1,62 +1,34 @@
 // What is made of records and recordings, and pictures that are too short for them.
-use crate::answers::{Words, add, add_decimal, refused, say};
-use crate::pictures::both;
-use crate::rows::{NO_CALL, room_of};
+use crate::answers::{Called, Words, add, add_decimal, refused, said, say, unanswered};
+use crate::rows::room_of;
 use crate::text::{part, past};
 use crate::words::{ROOM, Reader};
-use crate::{pictures, plans};
-use recorder::Put;
-use recording::Entry;
-use replay::{Part, Replayed, Stream};
+use laws::Refusal;
+use questions::{AddressAsked, LocationAsked};
+use recording::Fault;
+use replay::Stream;
 
 // Where a record is put of which no place is named, and the bytes of the buffer.
 const PLACE: u32 = 2;
 
 const RECORD_ROOM: u32 = 32;
 
-// What a writer answers: the refusal's number, or 0 and where the bytes end.
-#[derive(Drop)]
-struct Filled {
-    refusal: u16,
-    end: usize,
-}
-
-fn filled_by(p: Put, at: usize) -> Filled {
-    match p {
-        Put::Wrote(n) => Filled {
-            refusal: 0,
-            end: past(at, n),
-        },
-        Put::Refused(refusal) => Filled { refusal, end: at },
-    }
-}
-
 // Puts a record at `r.a` into the first `r.b` bytes.
-fn put_into(room: &mut [u8], r: Reader, data: &[u8]) -> Put {
-    let n = r.b as usize;
-    if n > room.len() {
-        return Put::Refused(NO_CALL);
-    }
-    recorder::put_record(&mut room[0..n], r.a as usize, r.gap, r.c, r.d, data)
+fn put_into(room: &mut [u8], r: Reader, data: &[u8]) -> Called<usize> {
+    let first = room.get_mut(..r.b as usize)?;
+    Some(recorder::put_record(first, r.a as usize, r.gap, r.c, r.d, data))
 }
 
 // Whether bytes are one record, with these numbers and this many bytes of data.
 fn is_record(s: &[u8], r: Reader) -> bool {
     match quick::read_record(s, 0) {
-        Entry::Record {
-            gap,
-            identifier,
-            remote,
-            start,
-            len,
-            next,
-        } => {
-            gap == r.gap
-                && identifier == r.c
-                && remote == r.d
-                && len == r.count
-                && past(start, len) == s.len()
-                && next == s.len()
+        Ok(Some(record)) => {
+            record.gap == r.gap
+                && record.identifier == r.c
+                && record.remote == r.d
+                && record.len == r.count
+                && past(record.start, record.len) == s.len()
+                && record.next == s.len()
         }
         _ => false,
     }
@@ -66,15 +38,14 @@ fn is_record(s: &[u8], r: Reader) -> bool {
 pub(crate) fn put(r: Reader, data: &[u8]) -> Words {
     let at = r.a as usize;
     let mut room = [b'.'; ROOM];
-    let f = filled_by(put_into(&mut room, r, data), at);
-    let w = room_of(b'p', f.refusal, &room, at, f.end);
-    if f.refusal != 0 {
-        return w;
+    let put = put_into(&mut room, r, data);
+    let w = room_of(b'p', put, &room, at);
+    match put {
+        Some(Ok(n)) if !is_record(part(&room, at, past(at, n)), r) => {
+            add(w, b" and reads as another")
+        }
+        _ => w,
     }
-    if is_record(part(&room, at, f.end), r) {
-        return w;
-    }
-    add(w, b" and reads as another")
 }
 
 // A record of which no place is named.
@@ -86,56 +57,47 @@ pub(crate) fn record(mut r: Reader, data: &[u8]) -> Words {
     put(r, data)
 }
 
-fn broken(offset: usize, refusal: u16) -> Words {
-    let w = add_decimal(say(b" broken at byte"), offset as u64);
-    add_decimal(add(w, b" refusal"), refusal as u64)
+fn broken(fault: Fault) -> Words {
+    let w = add_decimal(say(b" broken at byte"), fault.offset as u64);
+    add_decimal(add(w, b" refusal"), fault.refusal.code() as u64)
 }
 
 // What stands first in a recording.
 pub(crate) fn recording(s: &[u8]) -> Words {
     match quick::read_record(s, 0) {
-        Entry::End => say(b" at its end"),
-        Entry::Broken { refusal, offset } => broken(offset, refusal),
-        _ => say(b" a record"),
+        Ok(Some(_)) => say(b" a record"),
+        Ok(None) => say(b" at its end"),
+        Err(fault) => broken(fault),
     }
 }
 
 // Hears the first n bytes of a window in which the recording stands.
-fn hear(picture: &mut [u8], s: &[u8], n: usize) -> Part {
+fn hear(picture: &mut [u8], s: &[u8], n: usize) -> Result<Stream, Refusal> {
     let mut window = [0u8; ROOM];
     laws::copy_in(&mut window, 0, s);
     replay::hear_part(picture, &mut window, replay::begin(), n)
 }
 
-fn part_refusal(p: Part) -> u16 {
-    match p {
-        Part::Heard(_) => 0,
-        Part::Refused(n) => n,
-    }
-}
-
 // Puts a listing into the first n bytes.
-fn list_into(picture: &[u8], room: &mut [u8], n: usize, stream: Stream) -> Filled {
-    if n > room.len() {
-        return filled_by(Put::Refused(NO_CALL), 0);
-    }
-    filled_by(texts::put_listing(picture, &mut room[0..n], stream), 0)
+fn list_into(picture: &[u8], room: &mut [u8], n: usize, stream: Stream) -> Called<usize> {
+    let first = room.get_mut(..n)?;
+    Some(texts::put_listing(picture, first, stream))
 }
 
 // What a listing is in n bytes.
 fn list_in(picture: &[u8], n: usize, stream: Stream) -> Words {
     let mut room = [b'.'; ROOM];
-    let f = list_into(picture, &mut room, n, stream);
-    room_of(b'P', f.refusal, &room, 0, f.end)
+    let put = list_into(picture, &mut room, n, stream);
+    room_of(b'P', put, &room, 0)
 }
 
-// The listing, in as many bytes as it has. In one less it is refused with 13, and nothing is put.
+// The listing, in as many bytes as it has. In one less it is refused with 13, and nothing is put. No call is made in one less than none,
+// of a listing that has no room.
 fn just_listed(picture: &[u8], stream: Stream) -> Words {
     let mut room = [b'.'; ROOM];
-    let n = list_into(picture, &mut room, ROOM, stream).end;
+    let n = texts::put_listing(picture, &mut room, stream).unwrap_or(0);
     let less = list_in(picture, n.wrapping_sub(1), stream);
-    let bytes = less.bytes;
-    if part(&bytes, 0, less.count) == b" refused 13".as_slice() {
+    if said(&less) == b" refused 13".as_slice() {
         return list_in(picture, n, stream);
     }
     add(less, b" in a byte less")
@@ -143,41 +105,51 @@ fn just_listed(picture: &[u8], stream: Stream) -> Words {
 
 // A recording's listing, heard in a fresh picture. A part longer than its window is not heard: 13.
 pub(crate) fn listing(picture: &mut [u8], s: &[u8]) -> Words {
-    pictures::fresh(picture);
-    if part_refusal(hear(picture, s, ROOM + 1)) != laws::TOO_SHORT {
+    if let Err(refusal) = picture::fresh(picture) {
+        return refused(refusal);
+    }
+    if hear(picture, s, ROOM + 1) != Err(Refusal::TooShort) {
         return say(b" heard past its window");
     }
     match hear(picture, s, s.len()) {
-        Part::Heard(stream) => just_listed(picture, stream),
-        Part::Refused(n) => refused(n),
+        Ok(stream) => just_listed(picture, stream),
+        Err(refusal) => refused(refusal),
     }
 }
 
-fn all_refusal(picture: &mut [u8]) -> u16 {
-    match replay::hear_all(picture, b"") {
-        Replayed::Heard(_) => 0,
-        Replayed::Refused(n) => n,
-    }
-}
-
-fn listing_refusal(picture: &[u8]) -> u16 {
+// What calls on a picture are refused for; what else they are handed is wrong too.
+fn refusals(picture: &mut [u8]) -> [Option<Refusal>; 9] {
     let mut room = [b'.'; ROOM];
-    list_into(picture, &mut room, ROOM, replay::begin()).refusal
+    [
+        picture::fresh(picture).err(),
+        picture::hear(picture, 1621, 0, b"").err(),
+        picture::step_back(picture).err(),
+        questions::cell(picture, AddressAsked(256), LocationAsked(256)).err(),
+        plan::plan_bytes(picture, AddressAsked(0), &mut room).err(),
+        plan::right_plan_bytes(picture, AddressAsked(0), b"").err(),
+        replay::hear_all(picture, b"").err(),
+        hear(picture, b"", 0).err(),
+        texts::put_listing(picture, &mut room, replay::begin()).err(),
+    ]
 }
 
-// The one refusal of calls on a picture that is too short, of its plans, of a recording, of a part of one, and of a listing.
-fn refusal(picture: &mut [u8]) -> u16 {
-    let asked = both(pictures::short(picture), plans::short(picture));
-    let calls = both(asked, all_refusal(picture));
-    let part = both(calls, part_refusal(hear(picture, b"", 0)));
-    both(part, listing_refusal(picture))
-}
-
-// The first `r.a` bytes of a picture, as a picture.
-pub(crate) fn short(r: Reader, picture: &mut [u8]) -> u16 {
-    let n = r.a as usize;
-    if n > picture.len() {
-        return NO_CALL;
+// The one refusal of all.
+fn alike(refusals: &[Option<Refusal>]) -> Option<Refusal> {
+    let refusal = *refusals.first()?;
+    if refusals.iter().all(|other| *other == refusal) {
+        refusal
+    } else {
+        None
     }
-    refusal(&mut picture[0..n])
+}
+
+// The first `r.a` bytes of a picture, as a picture that is too short: the one refusal of all calls.
+pub(crate) fn short(r: Reader, picture: &mut [u8]) -> Words {
+    let Some(first) = picture.get_mut(..r.a as usize) else {
+        return unanswered();
+    };
+    match alike(&refusals(first)) {
+        Some(refusal) => refused(refusal),
+        None => unanswered(),
+    }
 }

@@ -1,11 +1,11 @@
 // What is put into a lent buffer. What a call does not fill stays as it was.
 use crate::answers::{
-    Words, add, add_bytes, add_characters, answer, refused, say, say_text, value,
+    Called, Words, add, add_bytes, add_characters, refused, say, say_text, unanswered, value,
 };
-use crate::text::part;
+use crate::text::{part, past};
 use crate::words::{ROOM, Reader};
 use questions::AddressAsked;
-use shape::{Answer, NOT_HEARD};
+use shape::NOT_HEARD;
 
 // The characters of a name, and the entries of its row where none are named.
 const NAME: usize = 16;
@@ -19,17 +19,6 @@ const UNTOUCHED: u16 = 777;
 
 const NO_MARK: u8 = 9;
 
-// Where a question asks for more than there is room for, and no call is made: no refusal has this number.
-pub const NO_CALL: u16 = 255;
-
-// The refusal's number of a call that fills a buffer; 0 where it filled it.
-pub(crate) fn refusal(a: Answer) -> u16 {
-    match a {
-        Answer::Refused(n) => n,
-        _ => 0,
-    }
-}
-
 // Whether of a buffer of dots only `filled`, at `from`, is changed.
 pub(crate) fn only(room: &[u8; ROOM], from: usize, filled: &[u8]) -> bool {
     let mut dots = [b'.'; ROOM];
@@ -38,26 +27,23 @@ pub(crate) fn only(room: &[u8; ROOM], from: usize, filled: &[u8]) -> bool {
 }
 
 // What was filled, by the letter of the statement: text, or bytes.
-fn shown(letter: u8, refusal: u16, filled: &[u8]) -> Words {
-    if refusal != 0 {
-        return refused(refusal);
-    }
+fn shown(letter: u8, filled: &[u8]) -> Words {
     match letter {
         b'P' => say_text(filled),
         _ => add_bytes(say(b""), filled),
     }
 }
 
-// What a call made of a buffer of dots: it filled what stands from `from` to before `to`, or refused to, and then `to` is `from`.
-pub(crate) fn room_of(
-    letter: u8,
-    refusal: u16,
-    room: &[u8; ROOM],
-    from: usize,
-    to: usize,
-) -> Words {
-    let filled = part(room, from, to);
-    and_more(shown(letter, refusal, filled), only(room, from, filled))
+// What a call made of a buffer of dots: how many bytes it put from `from` on; a refusal leaves it as it was.
+pub(crate) fn room_of(letter: u8, put: Called<usize>, room: &[u8; ROOM], from: usize) -> Words {
+    match put {
+        Some(Ok(n)) => {
+            let filled = part(room, from, past(from, n));
+            and_more(shown(letter, filled), only(room, from, filled))
+        }
+        Some(Err(refusal)) => and_more(refused(refusal), only(room, from, b"")),
+        None => unanswered(),
+    }
 }
 
 // Whether the entries of a row from `from` on are as they were.
@@ -66,11 +52,9 @@ fn untouched_from(row: &[u16], from: usize) -> bool {
 }
 
 // The row of a name, into the first n entries.
-fn fill_name(picture: &[u8], r: Reader, row: &mut [u16], n: usize) -> Answer {
-    if n > row.len() {
-        return Answer::Refused(NO_CALL);
-    }
-    questions::name(picture, AddressAsked(r.a), r.b, &mut row[0..n])
+fn fill_name(picture: &[u8], r: Reader, row: &mut [u16], n: usize) -> Called<u16> {
+    let first = row.get_mut(..n)?;
+    Some(questions::name(picture, AddressAsked(r.a), r.b, first))
 }
 
 // What a call says of a buffer, and whether it left the rest of it as it was.
@@ -85,37 +69,38 @@ pub(crate) fn and_more(w: Words, kept: bool) -> Words {
 pub(crate) fn name(r: Reader, picture: &[u8]) -> Words {
     let n = if r.found == 2 { NAME_ROOM } else { r.c };
     let mut row = [UNTOUCHED; ENTRIES];
-    let a = fill_name(picture, r, &mut row, n as usize);
-    let w = answer(b'n', a);
-    if refusal(a) != 0 {
-        return and_more(w, untouched_from(&row, 0));
+    match fill_name(picture, r, &mut row, n as usize) {
+        Some(Ok(heard)) => {
+            let w = add_characters(value(b'n', heard), &row[0..NAME]);
+            and_more(w, untouched_from(&row, NAME))
+        }
+        Some(Err(refusal)) => and_more(refused(refusal), untouched_from(&row, 0)),
+        None => unanswered(),
     }
-    and_more(add_characters(w, &row[0..NAME]), untouched_from(&row, NAME))
 }
 
 // An entry of a row after the call.
-fn entry(letter: u8, refusal: u16, v: u16) -> Words {
+fn entry(letter: u8, filled: Called<()>, v: u16) -> Words {
     match v {
-        UNTOUCHED => untouched(refusal),
+        UNTOUCHED => untouched(filled),
         NOT_HEARD => say(b" not heard"),
         _ => value(letter, v),
     }
 }
 
 // A refusal leaves the row as it was.
-fn untouched(refusal: u16) -> Words {
-    if refusal == 0 {
-        return say(b" untouched");
+fn untouched(filled: Called<()>) -> Words {
+    match filled {
+        Some(Ok(())) => say(b" untouched"),
+        Some(Err(refusal)) => refused(refusal),
+        None => unanswered(),
     }
-    refused(refusal)
 }
 
 // The memory row, into the first n entries.
-fn fill_row(picture: &[u8], at: u32, row: &mut [u16], n: usize) -> u16 {
-    if n > row.len() {
-        return NO_CALL;
-    }
-    refusal(questions::memory_row(picture, AddressAsked(at), &mut row[0..n]))
+fn fill_row(picture: &[u8], at: u32, row: &mut [u16], n: usize) -> Called<()> {
+    let first = row.get_mut(..n)?;
+    Some(questions::memory_row(picture, AddressAsked(at), first))
 }
 
 fn entry_at(row: &[u16; ENTRIES], i: usize) -> u16 {
@@ -124,16 +109,14 @@ fn entry_at(row: &[u16; ENTRIES], i: usize) -> u16 {
 
 pub(crate) fn row(r: Reader, picture: &[u8]) -> Words {
     let mut row = [UNTOUCHED; ENTRIES];
-    let refusal = fill_row(picture, r.a, &mut row, r.b as usize);
-    entry(b'R', refusal, entry_at(&row, r.c as usize))
+    let filled = fill_row(picture, r.a, &mut row, r.b as usize);
+    entry(b'R', filled, entry_at(&row, r.c as usize))
 }
 
 // The listed addresses, into the first n bytes.
-fn fill_listed(picture: &[u8], row: &mut [u8], n: usize) -> u16 {
-    if n > row.len() {
-        return NO_CALL;
-    }
-    refusal(questions::listed(picture, &mut row[0..n]))
+fn fill_listed(picture: &[u8], row: &mut [u8], n: usize) -> Called<()> {
+    let first = row.get_mut(..n)?;
+    Some(questions::listed(picture, first))
 }
 
 fn mark(b: u8) -> u16 {
@@ -146,6 +129,6 @@ fn mark(b: u8) -> u16 {
 
 pub(crate) fn listed(r: Reader, picture: &[u8]) -> Words {
     let mut row = [NO_MARK; ENTRIES];
-    let refusal = fill_listed(picture, &mut row, r.b as usize);
-    entry(b'A', refusal, mark(laws::byte_at(&row, r.a as usize)))
+    let filled = fill_listed(picture, &mut row, r.b as usize);
+    entry(b'A', filled, mark(laws::byte_at(&row, r.a as usize)))
 }

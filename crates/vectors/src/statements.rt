@@ -1,10 +1,10 @@
 // The statements: which there are, and what is done for each. A line is a question, and after "is" the answer in words; where it says
 // none, the answer is "done".
-use crate::answers::{Words, outcome, say};
-use crate::text::{after, part, past, until, word};
-use crate::words::{Reader, take_all, unread};
+use crate::answers::{Words, outcome, said, say};
+use crate::text::{after, part, past, word};
+use crate::words::{Reader, take_all};
 use crate::{frames, pictures, plans, recordings, rows};
-use laws::byte_at;
+use laws::{Refusal, byte_at};
 use std::io;
 
 #[derive(Drop)]
@@ -17,9 +17,6 @@ pub struct Tally {
 const LINE: usize = 32;
 
 const LETTER: usize = 30;
-
-// More patterns than there are.
-const MOST: usize = 64;
 
 // What is done for a question, by its letter.
 fn apart(letter: u8, r: Reader, data: &[u8]) -> Words {
@@ -49,81 +46,81 @@ fn asked(letter: u8, r: Reader, data: &[u8], picture: &[u8]) -> Words {
     }
 }
 
-// What changes the picture: a refusal's number, or 0.
-fn changed(letter: u8, r: Reader, data: &[u8], picture: &mut [u8]) -> u16 {
+// What changes the picture.
+fn changed(letter: u8, r: Reader, data: &[u8], picture: &mut [u8]) -> Result<(), Refusal> {
     match letter {
-        b'F' => pictures::fresh(picture),
-        b'X' => pictures::fresh_depth(r, picture),
+        b'F' => picture::fresh(picture),
+        b'X' => picture::fresh_with(picture, r.a),
         b'W' => pictures::fresh_with(r, picture),
-        b'H' => pictures::hear(picture, r.a, r.b, data),
-        b'B' => pictures::back(picture),
-        _ => recordings::short(r, picture),
+        b'H' => picture::hear(picture, r.a, r.b, data),
+        _ => picture::step_back(picture),
     }
 }
 
 // All statements.
 fn perform(letter: u8, r: Reader, data: &[u8], picture: &mut [u8]) -> Words {
     match letter {
-        b'F' | b'X' | b'W' | b'H' | b'B' | b'S' => outcome(changed(letter, r, data, picture)),
+        b'F' | b'X' | b'W' | b'H' | b'B' => outcome(changed(letter, r, data, picture)),
+        b'S' => recordings::short(r, picture),
         b'P' => recordings::listing(picture, data),
         _ => asked(letter, r, data, picture),
     }
 }
 
-// A question as the pattern at `at` reads it. Most patterns are told from it by their first letter.
-fn read_by(patterns: &[u8], at: usize, q: &[u8]) -> Reader {
-    if byte_at(patterns, at) != byte_at(q, 0) {
-        return unread(0);
+// A question as a pattern reads it. Most patterns are told from it by their first letter.
+fn read_by(pattern: &[u8], q: &[u8]) -> Option<Reader> {
+    if byte_at(pattern, 0) != byte_at(q, 0) {
+        return None;
     }
-    let end = past(at, LETTER);
-    take_all(q, part(patterns, at, end), byte_at(patterns, end))
+    take_all(q, part(pattern, 0, LETTER), byte_at(pattern, LETTER))
 }
 
-// A question as the first pattern reads it that reads all of it; where none does, its letter is 0.
-fn read(patterns: &[u8], q: &[u8]) -> Reader {
-    let mut at = 0;
-    for _ in 0..MOST {
-        let r = read_by(patterns, at, q);
-        if r.at == after(0, q) {
-            return r;
-        }
-        at = past(at, LINE);
-    }
-    unread(0)
+// A question as the first pattern reads it that reads all of it.
+fn read(patterns: &[u8], q: &[u8]) -> Option<Reader> {
+    patterns
+        .chunks_exact(LINE)
+        .find_map(|pattern| read_by(pattern, q))
 }
 
 // The answer; none where a question cannot be read.
 fn answer(patterns: &[u8], q: &[u8], picture: &mut [u8]) -> Words {
-    let r = read(patterns, q);
-    let bytes = r.bytes;
-    perform(r.letter, r, part(&bytes, 0, r.count), picture)
+    let Some(r) = read(patterns, q) else {
+        return say(b"");
+    };
+    perform(r.letter, r, part(&r.bytes, 0, r.count), picture)
 }
 
-// Where a word stands in a line; past the end where it has none.
-fn find_word(line: &[u8], sought: &[u8]) -> usize {
+// Where a word stands in a line.
+fn find_word(line: &[u8], sought: &[u8]) -> Option<usize> {
     let mut at = 0;
+    // The place is kept by hand: split would take a space at the line's end for a word more.
     for _ in 0..line.len() {
         if at >= line.len() {
             break;
         }
         let w = word(line, at);
         if w == sought {
-            return at;
+            return Some(at);
         }
         at = after(at, w);
     }
-    at
+    None
 }
 
-// Whether there is an answer, and the line says the same.
-fn agrees(line: &[u8], is: usize, got: &[u8]) -> bool {
-    if got.is_empty() {
-        return false;
+// What stands before "is", without the space; all, where the line says no answer.
+fn question(line: &[u8], is: Option<usize>) -> &[u8] {
+    match is {
+        Some(at) => part(line, 0, at.wrapping_sub(1)),
+        None => line.strip_suffix(b" ").unwrap_or(line),
     }
-    if is < line.len() {
-        return part(line, past(is, 2), line.len()) == got;
+}
+
+// The answer that a line says.
+fn expected(line: &[u8], is: Option<usize>) -> &[u8] {
+    match is {
+        Some(at) => part(line, past(at, 2), line.len()),
+        None => b" done",
     }
-    got == b" done".as_slice()
 }
 
 fn tell_difference(rt: &impl Print, number: u64, line: &[u8], got: &[u8]) -> io::Result<()> {
@@ -146,10 +143,9 @@ fn holds(
     picture: &mut [u8],
 ) -> io::Result<bool> {
     let is = find_word(line, b"is");
-    let w = answer(patterns, part(line, 0, is.wrapping_sub(1)), picture);
-    let bytes = w.bytes;
-    let got = part(&bytes, 0, w.count);
-    if agrees(line, is, got) {
+    let w = answer(patterns, question(line, is), picture);
+    let got = said(&w);
+    if !got.is_empty() && got == expected(line, is) {
         return Ok(true);
     }
     tell_difference(rt, number, line, got)?;
@@ -176,7 +172,7 @@ fn count(
     Ok(())
 }
 
-// All lines. Every line has a byte, the one that ends it, so that no text has more lines than bytes.
+// All lines.
 fn run_lines(
     rt: &impl Print,
     text: &[u8],
@@ -187,14 +183,8 @@ fn run_lines(
         agreed: 0,
         differed: 0,
     };
-    let mut at = 0;
-    for number in 1..=text.len() {
-        if at >= text.len() {
-            break;
-        }
-        let line = until(text, at, b'\n');
-        count(rt, &mut t, patterns, line, number as u64, picture)?;
-        at = after(at, line);
+    for (i, line) in text.split(|b| *b == b'\n').enumerate() {
+        count(rt, &mut t, patterns, line, past(i, 1) as u64, picture)?;
     }
     Ok(t)
 }

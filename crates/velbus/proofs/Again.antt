@@ -1,6 +1,7 @@
 -- A C caller that reads a frame into a message and writes the message gets the same frame, and one that lays out a message, writes it and reads
 -- the frame gets the same bytes.
 -- Assumes nothing.
+use Rattle.std.specs.Prelude.{Ok, Some}
 use Prim.Native.Nat.{ℕ, ◌+◌, ◌≤◌, ◌<◌}
 use native.Mathlib.Omega.{arith}
 use mathlib.Core.Path.{◌≡◌, refl, ap, ◌∙◌}
@@ -29,7 +30,6 @@ use Rattle.frame.specs.declared.messages.Command.TheVariants.{TypeLong, TypeShor
 use Rattle.frame.specs.declared.messages.Message.{Message}
 use Rattle.frame.specs.declared.messages.Message.TheVariants.{TypeRequest, Tells}
 use Rattle.codec.specs.declared.writer.Frame.{Frame}
-use Rattle.codec.specs.declared.writer.Writing.TheVariants.{Written}
 use Rattle.kinds.proofs.Listed.{everywhere, of_any}
 use Rattle.codec.proofs.Shapes.{cell_near, block_near}
 use Rattle.codec.proofs.RoundTrip.{read_then_written, written_then_read, written_lawful}
@@ -39,7 +39,6 @@ use Rattle.layouts.specs.Layout.{message_size, laid_bytes, held_in}
 use Rattle.velbus.specs.Frames.{held_word, held_into, read_into, write_word, write_into}
 use Rattle.layouts.specs.Statements.{Fitting}
 use Rattle.velbus.specs.Statements.{ReadThenWrittenAgain, LaidIsReadBack}
-use Rattle.layouts.specs.declared.parts.Held.TheVariants.{Holds}
 use Rattle.layouts.proofs.Holding.{laid_is_held}
 
 -- What is written has a number, and a location and seconds that fit their fields.
@@ -134,7 +133,7 @@ fitting_request : (a : Address) → Fitting a TypeRequest
 unfolding parts_of
 fitting_request a = record { numbered = lit< tt; location = lit< tt; seconds = lit< tt }
 
-written-fits : (kind : ℕ) (a : Address) (m : Message) (f : Frame) → writing kind a m ≡ Written f → Fitting a m
+written-fits : (kind : ℕ) (a : Address) (m : Message) (f : Frame) → writing kind a m ≡ Ok f → Fitting a m
 written-fits kind a TypeRequest f h = fitting_request a
 written-fits kind a (Tells m) f h =
     let own : ℕ = own_type kind (data_of (encode m)) in
@@ -166,11 +165,11 @@ unfolding write_into
 into_by kind message out h = rw (le-ltb (length message) message_size h)
 
 -- a laid-out message that is written, whatever stands after it
-module _ (kind : ℕ) (a : Address) (m : Message) (f : Frame) (after out : List ℕ) (h : writing kind a m ≡ Written f) where
+module _ (kind : ℕ) (a : Address) (m : Message) (f : Frame) (after out : List ℕ) (h : writing kind a m ≡ Ok f) where
   abbrev buffer : List ℕ
   buffer = laid_bytes (parts_of a m) ++ after
 
-  holds : held_in buffer ≡ Holds a m
+  holds : held_in buffer ≡ Some (a, m)
   holds = laid_is_held a m after (written-fits kind a m f h)
 
   enough : message_size ≤ length buffer

@@ -1,16 +1,13 @@
 -- What is promised of messages and frames in a C caller's buffers. The proof is proofs/Again.antt.
-use Rattle.std.specs.Prelude.{ℕ, ◌<◌, ◌≤◌, ◌≡◌, List, ◌++◌, length}
+use Rattle.std.specs.Prelude.{ℕ, ◌<◌, ◌≤◌, ◌≡◌, List, ◌++◌, length, Ok}
 use Rattle.laws.specs.Limits.{AllBytes}
 use Rattle.laws.specs.Copies.{copied_in}
 use Rattle.frame.specs.Bytes.{data_bytes}
 use Rattle.judging.specs.Reading.{reading}
 use Rattle.codec.specs.Writing.{writing, frame_bytes, frame_size}
-use Rattle.frame.specs.declared.messages.Reading.TheVariants.{Read}
 use Rattle.codec.specs.declared.writer.Frame.{Frame}
-use Rattle.codec.specs.declared.writer.Writing.TheVariants.{Written}
 use Rattle.frame.specs.declared.identifiers.Address.{Address}
 use Rattle.frame.specs.declared.messages.Message.{Message}
-use Rattle.layouts.specs.declared.parts.Held.TheVariants.{Holds}
 use Rattle.layouts.specs.Parts.{no_message, parts_of}
 use Rattle.layouts.specs.Layout.{message_size, laid_bytes, held_in}
 use Rattle.velbus.specs.Frames.{read_word, read_into, write_word, write_into}
@@ -31,7 +28,7 @@ ReadThenWrittenAgain =
     (kind identifier remote : ℕ) (s message out : List ℕ) (a : Address) (m : Message) →
     AllBytes s →
     message_size ≤ length message →
-    reading kind identifier remote s ≡ Read a m →
+    reading kind identifier remote s ≡ Ok (a, m) →
     WritesAgain kind (read_into (reading kind identifier remote s) message) out identifier remote s
 
 -- velbus_write makes a frame of the laid-out message, whatever stands after it, and velbus_read makes the same bytes of that frame again, in any buffer
@@ -46,5 +43,5 @@ abbrev pub LaidIsReadBack : Type 0
 LaidIsReadBack =
     (kind : ℕ) (a : Address) (m : Message) (f : Frame) (after out back : List ℕ) →
     a.0 < 256 →
-    writing kind a m ≡ Written f →
+    writing kind a m ≡ Ok f →
     ReadsBackAs kind (laid_bytes (parts_of a m)) after out back f

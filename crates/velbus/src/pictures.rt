@@ -9,7 +9,7 @@ ghost use Rattle.questions.specs.Replies.{kept_answer, listing, reply};
 ghost use Rattle.results.specs.Words.{outcome_word, answer_word};
 
 use questions::{AddressAsked, LocationAsked};
-use results::{answer_word, outcome_word, refused};
+use results::{answer_word, filled_word, outcome_word, refused, value_word};
 
 pub fn velbus_picture_size() -> u32
     ensures { result ≡ size }
@@ -35,7 +35,7 @@ pub fn velbus_hear(picture: &mut [u8], identifier: u32, remote: u32, data: &[u8]
     ensures value { result ≡ outcome_word (hearing picture.old identifier remote «data».now).outcome }
     ensures picture_after { picture.new ≡ (hearing picture.old identifier remote «data».now).buffer }
 {
-    refused(picture::hear_number(picture, identifier, remote, data))
+    outcome_word(picture::hear(picture, identifier, remote, data))
 }
 
 pub fn velbus_step_back(picture: &mut [u8]) -> u32
@@ -48,20 +48,20 @@ pub fn velbus_step_back(picture: &mut [u8]) -> u32
 pub fn velbus_kept(picture: &[u8]) -> u32
     ensures { result ≡ answer_word (kept_answer picture.now) }
 {
-    answer_word(questions::kept(picture))
+    value_word(questions::kept(picture))
 }
 
 pub fn velbus_listed(picture: &[u8], out: &mut [u8]) -> u32
     ensures value { result ≡ answer_word (listing picture.now out.old).answer }
     ensures out_after { out.new ≡ (listing picture.now out.old).buffer }
 {
-    answer_word(questions::listed(picture, out))
+    filled_word(questions::listed(picture, out))
 }
 
 pub fn velbus_type(picture: &[u8], address: u32) -> u32
     ensures { result ≡ answer_word (reply picture.now address type_of []).answer }
 {
-    answer_word(questions::type_of(picture, AddressAsked(address)))
+    value_word(questions::type_of(picture, AddressAsked(address)))
 }
 
 pub fn velbus_build_year(picture: &[u8], address: u32) -> u32
@@ -98,12 +98,12 @@ pub fn velbus_name(picture: &[u8], address: u32, name: u32, out: &mut [u8]) -> u
     ensures value { result ≡ answer_word (reply picture.now address (name_bytes name) out.old).answer }
     ensures out_after { out.new ≡ (reply picture.now address (name_bytes name) out.old).buffer }
 {
-    answer_word(questions::name_bytes(picture, AddressAsked(address), name, out))
+    value_word(questions::name_bytes(picture, AddressAsked(address), name, out))
 }
 
 pub fn velbus_memory_row(picture: &[u8], address: u32, out: &mut [u8]) -> u32
     ensures value { result ≡ answer_word (reply picture.now address memory_bytes out.old).answer }
     ensures out_after { out.new ≡ (reply picture.now address memory_bytes out.old).buffer }
 {
-    answer_word(questions::memory_bytes(picture, AddressAsked(address), out))
+    filled_word(questions::memory_bytes(picture, AddressAsked(address), out))
 }

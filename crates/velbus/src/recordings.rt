@@ -1,17 +1,18 @@
 // Records put into a lent buffer.
 ghost use Rattle.std.specs.Prelude.{◌≡◌};
+ghost use Rattle.laws.specs.Codes.{coded};
 ghost use Rattle.recorder.specs.Write.{put_answer, put_bytes};
 ghost use Rattle.velbus.specs.Recordings.{put_word};
 
-use recorder::Put;
+use laws::Refusal;
 use results::refused;
 
-fn put_word(put: Put) -> u32
-    ensures { result ≡ put_word put }
+fn put_word(put: Result<usize, Refusal>) -> u32
+    ensures { result ≡ put_word (coded put) }
 {
     match put {
-        Put::Wrote(count) => (count % 65536) as u32,
-        Put::Refused(number) => refused(number),
+        Ok(count) => (count % 65536) as u32,
+        Err(refusal) => refused(refusal),
     }
 }
 

@@ -1,15 +1,16 @@
 -- What a bench makes of a frame, before it looks at the room for its replies. Assumes nothing.
-use Rattle.std.specs.Prelude.{ℕ, Bool, ◌&&◌, cond, List, [], ◌∷◌, eqb}
+use Rattle.std.specs.Prelude.{ℕ, Bool, ◌&&◌, cond, List, [], ◌∷◌, eqb, Result, Ok, Err, Option, Some, None}
 use Rattle.laws.specs.Refusals.{bad_identifier, sid0_set, bad_form, bad_priority, not_listed}
 use Rattle.laws.specs.Tests.{among}
 use Rattle.kinds.specs.Types.{vmb8ir}
 use Rattle.frame.specs.Bytes.{byte}
-use Rattle.judging.specs.Reading.{reading}
-use Rattle.frame.specs.declared.messages.Reading.{Reading}
-use Rattle.frame.specs.declared.messages.Reading.TheVariants.{Read, Refused}
+use Rattle.frame.specs.declared.messages.Message.{Message}
+use Rattle.judging.specs.Reading.{reading, Reading}
 use Rattle.shape.specs.Limits.{bus_address}
-use Rattle.verdicts.specs.declared.verdicts.Verdict.{Verdict}
-use Rattle.verdicts.specs.declared.verdicts.Verdict.TheVariants.{Takes, Silent, Refuses}
+
+-- the message of a frame that is taken, none for a frame for another address, or the number of a refusal
+abbrev pub Verdict : Type 0
+Verdict = Result (Option Message) ℕ
 
 -- the reader's refusals that come before the address is looked at, and the commands that only a module sends
 abbrev pub first_refusals : List ℕ
@@ -20,17 +21,17 @@ sent_only = 0x00 ∷ 0xFE ∷ 0xCC ∷ 0xDA ∷ 0xF0 ∷ 0xF1 ∷ 0xF2 ∷ 0xEB 
 
 -- a refusal of the reader that is one of the first decides; else the rest does
 abbrev pub first_of : Reading → Verdict → Verdict
-first_of (Read a m) rest = rest
-first_of (Refused n) rest = cond (among n first_refusals) (Refuses n) rest
+first_of (Ok (a, m)) rest = rest
+first_of (Err n) rest = cond (among n first_refusals) (Err n) rest
 
 abbrev pub taken_if : Reading → Verdict
-taken_if (Read a m) = Takes m
-taken_if (Refused n) = Refuses n
+taken_if (Ok (a, m)) = Ok (Some m)
+taken_if (Err n) = Err n
 
 -- given what the frame reads as, whether it is for the bench's address, and whether only a module sends its command: silence at another address, 6 for
 -- such a command, then the reader's refusal
 unfoldable pub judged_if : Reading → Bool → Bool → Verdict
-judged_if r here sent = first_of r (cond here (cond sent (Refuses not_listed) (taken_if r)) Silent)
+judged_if r here sent = first_of r (cond here (cond sent (Err not_listed) (taken_if r)) (Ok None))
 
 unfoldable pub judged : ℕ → ℕ → ℕ → List ℕ → Verdict
 judged address identifier remote s =

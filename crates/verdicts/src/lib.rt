@@ -3,4 +3,4 @@
 
 mod verdicts;
 
-pub use verdicts::{Verdict, judge};
+pub use verdicts::judge;

@@ -1,32 +1,21 @@
 // What the bench makes of a frame, before it looks at the room for its replies.
-ghost use Rattle.std.specs.Prelude.{◌≡◌, cond, ◌&&◌, eqb};
+ghost use Rattle.std.specs.Prelude.{◌≡◌, cond, ◌&&◌, eqb, Ok, Err, None};
+ghost use Rattle.laws.specs.Codes.{code_of, coded};
 ghost use Rattle.laws.specs.Refusals.{not_listed};
 ghost use Rattle.laws.specs.Tests.{among};
 ghost use Rattle.shape.specs.Limits.{bus_address};
 ghost use Rattle.verdicts.specs.Verdicts.{first_refusals, sent_only, judged_if, judged};
-ghost use Rattle.verdicts.specs.declared.verdicts.Verdict.TheVariants.{Silent, Refuses};
 
-use frame::{Message, Reading, address_of};
+use frame::{Address, Message, address_of};
 use kinds::VMB8IR;
-use laws::{NOT_LISTED, byte_at};
-
-// The frame is taken, or it is for another address, or it is refused.
-#[derive(Clone, Copy)]
-pub enum Verdict {
-    Takes(Message),
-    Silent,
-    Refuses(u16),
-}
+use laws::{Refusal, byte_at};
 
 // The reader's refusals that come before the address is looked at.
-fn first_refusal(code: u16) -> bool
-    ensures { result ≡ among code first_refusals }
+fn first_refusal(refusal: Refusal) -> bool
+    ensures { result ≡ among (code_of refusal) first_refusals }
 {
-    match code {
-        laws::BAD_IDENTIFIER => true,
-        laws::SID0_SET => true,
-        laws::BAD_FORM => true,
-        laws::BAD_PRIORITY => true,
+    match refusal {
+        Refusal::BadIdentifier | Refusal::Sid0Set | Refusal::BadForm | Refusal::BadPriority => true,
         _ => false,
     }
 }
@@ -68,40 +57,49 @@ fn is_own(identifier: u32, address: u8) -> bool
 }
 
 // By the address and the command: another address is silent, a command that only a module sends is 6.
-fn settled(own: bool, sent: bool, rest: Verdict) -> Verdict
-    ensures { result ≡ cond own (cond sent (Refuses not_listed) rest) Silent }
+fn settled(
+    own: bool,
+    sent: bool,
+    rest: Result<Option<Message>, Refusal>,
+) -> Result<Option<Message>, Refusal>
+    ensures { coded result ≡ cond own (cond sent (Err not_listed) (coded rest)) (Ok None) }
 {
     if own {
-        if sent {
-            Verdict::Refuses(NOT_LISTED)
-        } else {
-            rest
-        }
+        if sent { Err(Refusal::NotListed) } else { rest }
     } else {
-        Verdict::Silent
+        Ok(None)
     }
 }
 
-fn judge_by(r: Reading, own: bool, sent: bool) -> Verdict
-    ensures { result ≡ judged_if r own sent }
+fn judge_by(
+    read: Result<(Address, Message), Refusal>,
+    own: bool,
+    sent: bool,
+) -> Result<Option<Message>, Refusal>
+    ensures { coded result ≡ judged_if (coded read) own sent }
 {
-    match r {
-        Reading::Read(_, m) => settled(own, sent, Verdict::Takes(m)),
-        Reading::Refused(code) => {
-            if first_refusal(code) {
-                Verdict::Refuses(code)
+    match read {
+        Ok((_, m)) => settled(own, sent, Ok(Some(m))),
+        Err(refusal) => {
+            if first_refusal(refusal) {
+                Err(refusal)
             } else {
-                settled(own, sent, Verdict::Refuses(code))
+                settled(own, sent, Err(refusal))
             }
         }
     }
 }
 
-pub fn judge(address: u8, identifier: u32, remote: u32, data: &[u8]) -> Verdict
-    ensures { result ≡ judged address identifier remote «data».now }
+// The message, where the frame is taken; none, where it is for another address; or a refusal.
+pub fn judge(
+    address: u8,
+    identifier: u32,
+    remote: u32,
+    data: &[u8],
+) -> Result<Option<Message>, Refusal>
+    ensures { coded result ≡ judged address identifier remote «data».now }
 {
     let own = is_own(identifier, address);
     let sent = backwards(remote, byte_at(data, 0));
-    let r = reader::read(VMB8IR, identifier, remote, data);
-    judge_by(r, own, sent)
+    judge_by(reader::read(VMB8IR, identifier, remote, data), own, sent)
 }

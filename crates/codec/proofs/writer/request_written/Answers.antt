@@ -1,14 +1,17 @@
--- `codec::writer::request_written` meets its contract.
--- Assumes nothing.
+use Rattle.std.proofs.Common.{arith}
+use Rattle.std.proofs.lemmas.Result.{err_from_is_err_and}
+use borrow.Author.Tests.{ne_eqb}
+use Rattle.laws.specs.Tests.{among}
+use Rattle.laws.proofs.Codes.{some_code}
 use Rattle.codec.specs.Writing.{writing}
-use borrow.Author.Tests.{eq-eqb, ne_eqb}
-use borrow.Author.Rules.{rules}
 use Rattle.codec.proofs.writer.request_written.Goals as goal
 
-pub returns-then-n-eq0 : goal.returns-then-n-eq0
+pub returns-in_err-handed : goal.returns-in_err-handed
 unfolding writing
-returns-then-n-eq0 c = rw (← c.handed_refusal-n.ensures, eq-eqb _ _ c.if-n-eq0.true, c.request_frame.ensures)
+returns-in_err-handed c =
+    let p = err_from_is_err_and c.from_residual.result c.from_residual.ensures.1 in
+    rw (p.1, p.2, ← c.in_err-handed.ensures, ne_eqb _ 0 (some_code c.in_err-handed.field-0.0))
 
-pub returns-else-n-eq0 : goal.returns-else-n-eq0
+pub returns : goal.returns
 unfolding writing
-returns-else-n-eq0 c = rw (← c.handed_refusal-n.ensures, ne_eqb _ _ c.if-n-eq0.false)
+returns c = rw (← c.in_ok-handed.ensures, c.request_frame.ensures)

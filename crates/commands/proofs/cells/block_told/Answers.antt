@@ -1,4 +1,6 @@
 -- `commands::cells::block_told` meets its contract. Assumes nothing.
+use Rattle.std.proofs.lemmas.Result.{err_from_is_err_and}
+use Rattle.laws.proofs.Codes.{some_code}
 use Rattle.std.proofs.Common.{[], ◌∷◌, refl, arith, rules}
 use Rattle.kinds.specs.Types.{low, last_start}
 use Rattle.frame.specs.Bytes.{byte}
@@ -12,15 +14,17 @@ use Rattle.commands.proofs.cells.block_told.Goals as goal
 arm : Arm every_module 0xCC 7 low
 arm = record { some_bytes = refl; no_type = refl; rows = refl }
 
-pub returns-then-not-formed : goal.returns-then-not-formed
-returns-then-not-formed c = misfitted arm c.args.picture.now c.args.slot c.args.kind c.args.priority c.args.«data».now c.requires.0 c.requires.1 refl c.formed.ensures c.if-not-formed.true c.misfit.ensures refl
+pub returns-in_err-formed : goal.returns-in_err-formed
+returns-in_err-formed c =
+    let p = err_from_is_err_and c.from_residual.result c.from_residual.ensures.1 in
+    rw (p.1, p.2) (misfitted arm c.args.priority c.args.«data».now c.requires.0 c.requires.1 refl c.in_err-formed.ensures (some_code c.in_err-formed.field-0.0) refl)
 
 pub returns-then-l-last_start_of : goal.returns-then-l-last_start_of
 returns-then-l-last_start_of c =
     let l = c.location_in-l.ensures in
     let e = rw (c.wide32.ensures, l) at c.block_fault.ensures in
     let h = rw (l, c.last_start_of.ensures) at c.if-l-last_start_of.true in
-    at_fault arm c.args.picture.now c.args.slot c.args.kind c.args.priority c.args.«data».now c.requires.0 c.requires.1 refl c.formed.ensures c.if-not-formed.false e (far (last_start c.args.kind) (location_in c.args.«data».now) h e) refl
+    at_fault arm c.args.priority c.args.«data».now c.requires.0 c.requires.1 refl c.in_ok-formed.ensures e (far (last_start c.args.kind) (location_in c.args.«data».now) h e) refl
 
 pub returns : goal.returns
 unfolding meaning_of
@@ -28,4 +32,4 @@ returns c =
     let l = c.location_in-l.ensures in
     let h = rw (l, c.last_start_of.ensures) at c.if-l-last_start_of.false in
     let place = rw (l) at c.cell_place.ensures in
-    told arm c.args.picture.now c.args.slot c.args.kind c.args.priority c.args.«data».now c.requires.0 c.requires.1 refl c.formed.ensures c.if-not-formed.false (telling (cell_place c.args.kind (location_in c.args.«data».now).0) (byte 4 c.args.«data».now ∷ byte 5 c.args.«data».now ∷ byte 6 c.args.«data».now ∷ byte 7 c.args.«data».now ∷ [])) refl refl (near (last_start c.args.kind) (location_in c.args.«data».now) h) refl (omega (arith, cells_small c.args.kind)) (rw (← c.byte_at-4.ensures, ← c.byte_at-3.ensures, ← c.byte_at-2.ensures, ← c.byte_at.ensures, ← place) c.tell_four.ensures)
+    told arm c.args.priority c.args.«data».now c.requires.0 c.requires.1 refl c.in_ok-formed.ensures (telling (cell_place c.args.kind (location_in c.args.«data».now).0) (byte 4 c.args.«data».now ∷ byte 5 c.args.«data».now ∷ byte 6 c.args.«data».now ∷ byte 7 c.args.«data».now ∷ [])) refl refl (near (last_start c.args.kind) (location_in c.args.«data».now) h) refl (omega (arith, cells_small c.args.kind)) (rw (← c.byte_at-4.ensures, ← c.byte_at-3.ensures, ← c.byte_at-2.ensures, ← c.byte_at.ensures, ← place) c.tell_four.ensures)

@@ -1,4 +1,6 @@
 -- `commands::others::status_asked` meets its contract. Assumes nothing.
+use Rattle.std.proofs.lemmas.Result.{err_from_is_err_and}
+use Rattle.laws.proofs.Codes.{some_code}
 use Rattle.std.proofs.Common.{refl, rules}
 use Rattle.kinds.specs.Types.{low}
 use Rattle.places.specs.Runs.{meaning_of}
@@ -9,16 +11,19 @@ use Rattle.commands.proofs.others.status_asked.Goals as goal
 arm : Arm every_module 0xFA 2 low
 arm = record { some_bytes = refl; no_type = refl; rows = refl }
 
-pub returns-then-not-formed : goal.returns-then-not-formed
-returns-then-not-formed c = misfitted arm c.args.picture.now c.args.slot c.args.kind c.args.priority c.args.«data».now c.requires.0 c.requires.1 refl c.formed.ensures c.if-not-formed.true c.misfit.ensures refl
+pub returns-in_err-formed : goal.returns-in_err-formed
+returns-in_err-formed c =
+    let p = err_from_is_err_and c.from_residual.result c.from_residual.ensures.1 in
+    rw (p.1, p.2) (misfitted arm c.args.priority c.args.«data».now c.requires.0 c.requires.1 refl c.in_err-formed.ensures (some_code c.in_err-formed.field-0.0) refl)
 
-pub returns-then-n-ne0 : goal.returns-then-n-ne0
-returns-then-n-ne0 c =
-    let e = rw (c.wide32.ensures, c.byte_at.ensures) at c.status_asked_fault-n.ensures in
-    at_fault arm c.args.picture.now c.args.slot c.args.kind c.args.priority c.args.«data».now c.requires.0 c.requires.1 refl c.formed.ensures c.if-not-formed.false e c.if-n-ne0.true refl
+pub returns-in_err-status_asked_fault : goal.returns-in_err-status_asked_fault
+returns-in_err-status_asked_fault c =
+    let e = rw (c.wide32.ensures, c.byte_at.ensures) at c.in_err-status_asked_fault.ensures in
+    let p = err_from_is_err_and c.from_residual-in_err-status_asked_fault.result c.from_residual-in_err-status_asked_fault.ensures.1 in
+    rw (p.1, p.2) (at_fault arm c.args.priority c.args.«data».now c.requires.0 c.requires.1 refl c.in_ok-formed.ensures e (some_code c.in_err-status_asked_fault.field-0.0) refl)
 
 pub returns : goal.returns
 unfolding meaning_of
 returns c =
-    let e = rw (c.wide32.ensures, c.byte_at.ensures) at c.status_asked_fault-n.ensures in
-    passed arm c.args.picture.now c.args.slot c.args.kind c.args.priority c.args.«data».now c.requires.0 c.requires.1 refl c.formed.ensures c.if-not-formed.false refl e c.if-n-ne0.false c.pass.ensures
+    let e = rw (c.wide32.ensures, c.byte_at.ensures) at c.in_ok-status_asked_fault.ensures in
+    passed arm c.args.priority c.args.«data».now c.requires.0 c.requires.1 refl c.in_ok-formed.ensures refl e refl c.pass.ensures

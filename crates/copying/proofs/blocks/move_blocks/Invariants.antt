@@ -1,14 +1,8 @@
--- `copying::blocks::move_blocks` meets its contract. The loop's invariant: the first i bytes are copied. Assumes nothing.
-use Prim.Native.Nat.{◌-◌}
-use mathlib.Core.Path.{refl}
-use lib.ListN.{length}
-use Rattle.copying.proofs.Runs.{Front, front_on}
-use borrow.Author.Rules.{rules}
-use native.Mathlib.Omega.{arith}
+-- `copying::blocks::move_blocks` meets its contract. Assumes nothing.
+use Rattle.std.proofs.Common.{◌≡◌, ◌*◌, take}
+use Rattle.std.proofs.lemmas.List.Edits.{sets}
 use Rattle.copying.proofs.blocks.move_blocks.Given as goal
 
+-- the first i blocks are copied
 abbrev pub invariant-loop-i : goal.invariant-loop-i
-invariant-loop-i l = Front l.bytes l.initial.out l.out l.i
-
-abbrev pub decreases-loop-i : goal.decreases-loop-i
-decreases-loop-i l = length l.bytes - l.i
+invariant-loop-i l = l.out ≡ sets l.initial.out 0 (take (128 * l.i) l.bytes)

@@ -5,7 +5,6 @@ use Rattle.kinds.specs.Types.{extent_of}
 use Rattle.fields.specs.Fields.{buttons_allowed, asked_allowed}
 use Rattle.fields.proofs.Unions.{union_tested}
 use borrow.Author.Tests.{eq-eqb, ne_eqb}
-use borrow.Author.Rules.{rules}
 use Rattle.fields.proofs.fields.asked_allowed.Goals as goal
 
 pub returns-then-e-eq0 : goal.returns-then-e-eq0

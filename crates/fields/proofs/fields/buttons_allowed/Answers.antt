@@ -12,7 +12,6 @@ use Rattle.laws.proofs.Keys.{below}
 use Rattle.laws.proofs.Testing.{same, same_is}
 use mathlib.Core.List.{[]}
 use native.Mathlib.Omega.{arith}
-use borrow.Author.Rules.{rules}
 use Rattle.fields.proofs.fields.buttons_allowed.Goals as goal
 
 of-blind : (x : ℕ) → x < 256 → (ltb x 64 && eqb (x / 4 % 4) 0) ≡ clear_bits blind_channels bits x

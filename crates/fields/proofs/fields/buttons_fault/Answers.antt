@@ -1,6 +1,5 @@
 -- `fields::fields::buttons_fault` meets its contract.
 -- Assumes nothing.
-use borrow.Author.Rules.{rules}
 use Rattle.kinds.specs.Types.{line_of}
 use Rattle.fields.specs.Fields.{buttons_allowed}
 use Rattle.fields.proofs.fields.buttons_fault.Goals as goal

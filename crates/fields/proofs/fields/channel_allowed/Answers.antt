@@ -2,7 +2,6 @@
 -- Assumes nothing.
 use Rattle.kinds.specs.Types.{extent_of, name_of, channels_of}
 use Rattle.kinds.proofs.Positions.{among_position}
-use borrow.Author.Rules.{rules}
 use Rattle.fields.proofs.fields.channel_allowed.Goals as goal
 
 pub returns : goal.returns

@@ -5,7 +5,6 @@ use mathlib.Core.Bool.{Bool, true, false, ◌||◌, cond}
 use lib.Dec.{eqb}
 use Rattle.kinds.specs.Types.{line_of, blinds_of}
 use Rattle.kinds.proofs.Listed.{other_line}
-use borrow.Author.Rules.{rules}
 use Rattle.fields.proofs.fields.is_blind.Goals as goal
 
 -- a look through a list of one and of two numbers

@@ -1,7 +1,6 @@
 -- `fields::fields::of_blinds` meets its contract.
 -- Assumes nothing.
 use Rattle.kinds.specs.Types.{extent_of}
-use borrow.Author.Rules.{rules}
 use Rattle.fields.proofs.fields.of_blinds.Goals as goal
 
 pub returns : goal.returns

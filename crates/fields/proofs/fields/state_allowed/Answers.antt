@@ -6,7 +6,6 @@ use Prim.Native.Nat.{◌*◌}
 use lib.Dec.{eqb}
 use native.Mathlib.Omega.{arith}
 use Rattle.kinds.proofs.Positions.{up_small}
-use borrow.Author.Rules.{rules}
 use Rattle.fields.proofs.fields.state_allowed.Goals as goal
 
 one_of : (a b c : Bool) → a || (b || c) ≡ cond a true (cond b true (cond c true false))

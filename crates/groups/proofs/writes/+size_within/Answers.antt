@@ -1,9 +1,8 @@
 -- `groups::writes::size_within` meets its contract; the measure is the number of groups still allowed. Assumes nothing.
-use Prim.Native.Nat.{ℕ, ◌<◌, ◌+◌, ◌-◌, ◌/◌}
+use Prim.Native.Nat.{ℕ, ◌+◌, ◌-◌, ◌/◌}
 use mathlib.Core.Path.{ap, sym, ◌∙◌}
 use native.Mathlib.Numerals.{add-one}
 use native.Mathlib.Omega.{arith}
-use borrow.Author.Rules.{rules}
 use lib.ListN.{length}
 use Rattle.groups.proofs.Writing.{bytes_none, bytes_last, bytes_more, bytes_length}
 use Rattle.groups.proofs.writes.+size_within.Goals as goal

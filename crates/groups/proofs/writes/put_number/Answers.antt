@@ -2,7 +2,6 @@
 use mathlib.Core.Path.{sym, ◌∙◌}
 use native.Mathlib.Omega.{arith}
 use Rattle.groups.proofs.Writing.{put-fits, put_no_room}
-use borrow.Author.Rules.{rules}
 use Rattle.groups.proofs.writes.put_number.Goals as goal
 
 pub returns-then-out-at : goal.returns-then-out-at

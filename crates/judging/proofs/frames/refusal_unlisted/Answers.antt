@@ -1,14 +1,16 @@
--- `judging::frames::refusal_unlisted` meets its contract.
--- Assumes nothing.
+use Rattle.std.proofs.Common.{refl}
+use Rattle.std.proofs.lemmas.Result.{err_from_is_err_and}
+use Rattle.laws.proofs.Codes.{some_code}
 use Rattle.judging.proofs.Numbers.{frame_number, request_number, command-number}
-use borrow.Author.Rules.{rules}
 use Rattle.judging.proofs.frames.refusal_unlisted.Goals as goal
 
-pub returns-then-n-ne0 : goal.returns-then-n-ne0
-returns-then-n-ne0 c = frame_number _ _ _ _ c.form_refusal-n.ensures c.if-n-ne0.true
+pub returns-in_err-form_refusal : goal.returns-in_err-form_refusal
+returns-in_err-form_refusal c =
+    let p = err_from_is_err_and c.from_residual.result c.from_residual.ensures.1 in
+    rw (p.1, p.2) (frame_number _ _ _ _ c.in_err-form_refusal.ensures (some_code c.in_err-form_refusal.field-0.0))
 
 pub returns-then-remote-eq1 : goal.returns-then-remote-eq1
-returns-then-remote-eq1 c = request_number _ _ _ _ c.form_refusal-n.ensures c.if-n-ne0.false c.if-remote-eq1.true c.request_refusal.ensures
+returns-then-remote-eq1 c = request_number _ _ _ _ c.in_ok-form_refusal.ensures refl c.if-remote-eq1.true c.request_refusal.ensures
 
 pub returns-else-remote-eq1 : goal.returns-else-remote-eq1
-returns-else-remote-eq1 c = command-number _ _ _ _ c.form_refusal-n.ensures c.if-n-ne0.false c.if-remote-eq1.false c.untyped_refusal.ensures
+returns-else-remote-eq1 c = command-number _ _ _ _ c.in_ok-form_refusal.ensures refl c.if-remote-eq1.false c.untyped_refusal.ensures

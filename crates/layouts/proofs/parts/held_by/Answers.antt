@@ -1,12 +1,10 @@
--- `layouts::parts::held_by` meets its contract. Assumes nothing.
-use Rattle.layouts.specs.Parts.{held_by}
-use borrow.Author.Rules.{rules}
+use Rattle.layouts.specs.Parts.{same_six, same_parts, held_by}
 use Rattle.layouts.proofs.parts.held_by.Goals as goal
 
-pub returns-then-same_parts : goal.returns-then-same_parts
-unfolding held_by
-returns-then-same_parts c = rw (← c.message_from-m.ensures, ← c.parts_of.ensures, ← c.same_parts.ensures, c.if-same_parts.true)
+pub returns-then-eq : goal.returns-then-eq
+unfolding held_by same_parts same_six
+returns-then-eq c = rw (← c.message_from-m.ensures, ← c.parts_of.ensures, ← c.if-eq.ensures)
 
-pub returns-else-same_parts : goal.returns-else-same_parts
-unfolding held_by
-returns-else-same_parts c = rw (← c.message_from-m.ensures, ← c.parts_of.ensures, ← c.same_parts.ensures, c.if-same_parts.false)
+pub returns-else-eq : goal.returns-else-eq
+unfolding held_by same_parts same_six
+returns-else-eq c = rw (← c.message_from-m.ensures, ← c.parts_of.ensures, ← c.if-eq.ensures)

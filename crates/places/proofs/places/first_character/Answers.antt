@@ -2,7 +2,6 @@
 use native.Mathlib.Omega.{arith}
 use mathlib.Core.Path.{◌≡◌, refl, sym, ap, ◌∙◌}
 use mathlib.Core.Bool.{true, false}
-use borrow.Author.Rules.{rules}
 use Rattle.kinds.specs.Types.{names_in_memory}
 use Rattle.places.specs.Places.{first_character}
 use Rattle.places.proofs.places.first_character.Goals as goal

@@ -2,7 +2,6 @@
 use mathlib.Core.Path.{◌≡◌, sym, ◌∙◌}
 use native.Mathlib.Omega.{arith}
 use borrow.Author.Tests.{le-ltb}
-use borrow.Author.Rules.{rules}
 use Rattle.kinds.specs.Types.{extent_of, line_of, no_line}
 use Rattle.kinds.proofs.Listed.{other_line}
 use Rattle.places.proofs.places.has_cell.Goals as goal

@@ -1,5 +1,4 @@
 -- `places::places::has_name` meets its contract. Assumes nothing.
-use borrow.Author.Rules.{rules}
 use Rattle.places.specs.Places.{has_name}
 use Rattle.places.proofs.places.has_name.Goals as goal
 

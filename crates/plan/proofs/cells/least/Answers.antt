@@ -1,10 +1,7 @@
 -- `plan::cells::least` meets its contract. The loop's invariant: the reads counted, with those that are left, are the plan's. Assumes nothing.
-use borrow.Author.Rules.{rules}
 use native.Mathlib.Omega.{arith}
-use lib.ListN.{length}
-use Rattle.plan.specs.Replies.{row_at}
 use Rattle.plan.proofs.CellRow.{row-length}
-use Rattle.reads.proofs.Steps.{rest, Counted, count-first}
+use Rattle.reads.proofs.Steps.{count-first}
 use Rattle.plan.proofs.Turns.{few_reads, more_to_read, fewer_left, one_more_lem, all_read}
 use Rattle.plan.proofs.cells.least.Goals as goal
 

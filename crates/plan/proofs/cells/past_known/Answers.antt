@@ -1,7 +1,6 @@
 -- `plan::cells::past_known` meets its contract. Assumes nothing.
 use Prim.Native.Nat.{◌+◌, ◌*◌}
 use mathlib.Core.Path.{refl, ◌∙◌}
-use borrow.Author.Rules.{rules}
 use native.Mathlib.Omega.{arith}
 use Rattle.questions.specs.Fills.{value_at}
 use Rattle.plan.specs.Replies.{row_at}

@@ -1,5 +1,4 @@
 -- `plan::cells::three_told` meets its contract. Assumes nothing.
-use borrow.Author.Rules.{rules}
 use Rattle.laws.proofs.Testing.{not_both}
 use Rattle.plan.proofs.cells.three_told.Goals as goal
 

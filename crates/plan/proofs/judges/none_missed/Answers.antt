@@ -1,16 +1,9 @@
--- `plan::judges::none_missed` meets its contract. The loop's invariant: none is missed exactly if none is from here on. Assumes nothing.
-use borrow.Author.Rules.{rules}
-use Prim.Native.Nat.{◌-◌}
-use mathlib.Core.Path.{◌≡◌, refl, sym, ◌∙◌}
-use lib.ListN.{drop}
-use Rattle.reads.specs.Judging.{none_missed}
+-- `plan::judges::none_missed` meets its contract. Assumes nothing.
+use mathlib.Core.Path.{sym, ◌∙◌}
 use Rattle.plan.specs.Replies.{row_at}
 use Rattle.reads.proofs.Judging.{none_end, none_stop, none_on}
 use Rattle.plan.proofs.CellRow.{in_row, past_row, judged-cell}
 use Rattle.plan.proofs.judges.none_missed.Goals as goal
-
-pub loop-cell-init : goal.loop-cell-init
-loop-cell-init c = refl
 
 pub returns-then-is_missed : goal.returns-then-is_missed
 returns-then-is_missed c =

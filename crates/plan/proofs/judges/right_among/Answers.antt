@@ -1,5 +1,4 @@
 -- `plan::judges::right_among` meets its contract. Assumes nothing.
-use borrow.Author.Rules.{rules}
 use Rattle.plan.specs.Replies.{row_at}
 use Rattle.plan.proofs.CellRow.{legal_row}
 use Rattle.reads.proofs.Judging.{wrong_count, wrong_start, right_by}

@@ -1,5 +1,4 @@
 -- `plan::judges::right_bytes_in` meets its contract. Assumes nothing.
-use borrow.Author.Rules.{rules}
 use mathlib.Core.Path.{sym, ap, ◌∙◌}
 use lib.ListN.{length}
 use Rattle.plan.specs.Replies.{memory_in}

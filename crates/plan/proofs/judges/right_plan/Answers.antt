@@ -1,21 +1,14 @@
 -- `plan::judges::right_plan` meets its contract. Assumes nothing.
-use borrow.Author.Rules.{rules}
 use mathlib.Core.Path.{ap, ◌∙◌}
 use mathlib.Core.Bool.{Bool}
-use Rattle.shape.specs.declared.answers.Answer.TheVariants.{Value}
-use Rattle.questions.specs.Question.{Reply}
+use Rattle.std.specs.Prelude.{Some, Ok}
+use Rattle.questions.proofs.Replying.{both_of, handed_on}
 use Rattle.plan.specs.Replies.{yes_no}
-use Rattle.plan.proofs.Replying.{short-refused, unlisted-refused, listed_says}
+use Rattle.plan.proofs.Replying.{refused_before, found_says}
 use Rattle.plan.proofs.judges.right_plan.Goals as goal
 
-pub returns-then-picture-lt-SIZE : goal.returns-then-picture-lt-SIZE
-returns-then-picture-lt-SIZE c = ap (λ (r : Reply). r.answer) (short-refused _ _ _ _ c.if-picture-lt-SIZE.true)
+pub returns-in_err-slot : goal.returns-in_err-slot
+returns-in_err-slot c = rw (handed_on c.from_residual.result c.from_residual.ensures.1) (both_of (refused_before _ _ _ _ c.module_asked.ensures.value c.in_err-slot.was)).0
 
-pub returns-then-slot-lt-ROOM : goal.returns-then-slot-lt-ROOM
-returns-then-slot-lt-ROOM c =
-    c.yes_no.ensures
-    ∙ ap (λ (t : Bool). Value (yes_no t)) c.right_in.ensures
-    ∙ ap (λ (r : Reply). r.answer) (listed_says _ _ _ _ c.if-picture-lt-SIZE.false c.slot_asked-slot.ensures c.if-slot-lt-ROOM.true)
-
-pub returns-else-slot-lt-ROOM : goal.returns-else-slot-lt-ROOM
-returns-else-slot-lt-ROOM c = ap (λ (r : Reply). r.answer) (unlisted-refused _ _ _ _ c.if-picture-lt-SIZE.false c.slot_asked-slot.ensures c.if-slot-lt-ROOM.false)
+pub returns : goal.returns
+returns c = ap (λ (t : Bool). Ok (Some (yes_no t))) c.right_in.ensures ∙ (both_of (found_says _ _ _ _ c.module_asked.ensures.value c.in_ok-slot.was)).0

@@ -1,5 +1,4 @@
 -- `plan::plans::put_start` meets its contract. Assumes nothing.
-use borrow.Author.Rules.{rules}
 use native.Mathlib.Omega.{arith}
 use lib.ListN.{length-set}
 use Rattle.plan.proofs.plans.put_start.Goals as goal

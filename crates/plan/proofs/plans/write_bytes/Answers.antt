@@ -1,16 +1,14 @@
 -- `plan::plans::write_bytes` meets its contract. The loop's invariant: the reads counted, with those that are left, are the plan's, and what is left,
 -- written on from here, makes the whole of it. Assumes nothing.
-use borrow.Author.Rules.{rules}
 use native.Mathlib.Omega.{arith}
-use Prim.Native.Nat.{◌+◌, ◌-◌, ◌*◌, ◌≤◌}
-use mathlib.Core.Path.{◌≡◌, refl, ap, ◌∙◌}
+use Prim.Native.Nat.{◌+◌}
+use mathlib.Core.Path.{refl, ap, ◌∙◌}
 use lib.ListN.{length}
 use Rattle.questions.specs.Statements.{in_bytes}
-use Rattle.reads.specs.Plan.{least_reads}
 use Rattle.plan.specs.Replies.{row_at}
-use Rattle.reads.proofs.Steps.{rest, rest_none, next_is}
+use Rattle.reads.proofs.Steps.{rest_none, next_is}
 use Rattle.plan.proofs.CellRow.{past_row}
-use Rattle.plan.proofs.Turns.{few_reads, Left, bytes_all}
+use Rattle.plan.proofs.Turns.{few_reads, bytes_all}
 use Rattle.plan.proofs.Passing.{count-begun, left_begun, left_same, same_rest, put-length, put_left, block_read, last_read}
 use Rattle.plan.proofs.plans.write_bytes.Goals as goal
 

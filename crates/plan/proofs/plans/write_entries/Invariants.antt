@@ -1,13 +1,10 @@
 -- `plan::plans::write_entries` meets its contract. The loop's invariant: the reads counted, with those that are left, are the plan's, and what is left,
 -- written on from here, makes the whole of it. Assumes nothing.
-use borrow.Author.Rules.{rules}
-use native.Mathlib.Omega.{arith}
-use mathlib.Core.Path.{◌≡◌, refl}
-use lib.ListN.{length, length-set}
+use mathlib.Core.Path.{◌≡◌}
+use lib.ListN.{length}
 use Rattle.plan.specs.Replies.{row_at}
-use Rattle.plan.proofs.CellRow.{row-length}
-use Rattle.reads.proofs.Steps.{rest, Counted, count-first}
-use Rattle.plan.proofs.Turns.{few_reads, more_to_read, fewer_left, one_more_lem, all_read, left_of, Left, all_left, entry_more, entries_all}
+use Rattle.reads.proofs.Steps.{rest, Counted}
+use Rattle.plan.proofs.Turns.{Left}
 use Rattle.plan.proofs.plans.write_entries.Given as goal
 
 abbrev pub invariant-loop-cell : goal.invariant-loop-cell

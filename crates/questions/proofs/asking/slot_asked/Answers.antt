@@ -1,7 +1,6 @@
 -- `questions::asking::slot_asked` meets its contract. Assumes nothing.
 use borrow.Author.Tests.{lt-ltb, le-ltb}
 use Rattle.questions.specs.Replies.{slot_asked}
-use borrow.Author.Rules.{rules}
 use Rattle.questions.proofs.asking.slot_asked.Goals as goal
 
 pub returns-then-number-lt-ADDRESSES : goal.returns-then-number-lt-ADDRESSES

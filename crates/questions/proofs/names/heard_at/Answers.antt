@@ -2,7 +2,6 @@
 use Prim.Native.Nat.{◌+◌}
 use lib.ListN.{get_or}
 use borrow.Author.Tests.{eq-eqb, ne_eqb}
-use borrow.Author.Rules.{rules}
 use native.Mathlib.Omega.{arith}
 use Rattle.questions.proofs.names.heard_at.Goals as goal
 

@@ -1,16 +1,8 @@
--- `questions::names::heard_from` meets its contract. The loop's invariant: the places before i are counted. Assumes nothing.
-use Prim.Native.Nat.{◌+◌, ◌*◌, ◌≤◌, ◌-◌}
-use native.Mathlib.Nat.{le_antisymm}
-use mathlib.Core.Path.{◌≡◌, ap, ◌∙◌}
-use Rattle.places.specs.Places.{name_length}
+-- `questions::names::heard_from` meets its contract. Assumes nothing.
+use Rattle.std.proofs.Common.{◌≡◌, ◌+◌, ◌*◌, ◌≤◌}
 use Rattle.questions.specs.Fills.{heard_at, sum_to}
-use Rattle.questions.proofs.Filling.{sum-none, sum_more}
-use borrow.Author.Rules.{rules}
-use native.Mathlib.Omega.{arith}
 use Rattle.questions.proofs.names.heard_from.Given as goal
 
+-- the places before i are counted
 abbrev pub invariant-loop-i : goal.invariant-loop-i
-invariant-loop-i l = (l.i ≤ name_length) × (l.count ≤ l.i) × (l.count ≡ sum_to (λ i. heard_at l.picture (l.at + 2 * i)) l.i)
-
-abbrev pub decreases-loop-i : goal.decreases-loop-i
-decreases-loop-i l = name_length - l.i
+invariant-loop-i l = (l.count ≤ l.i) × (l.count ≡ sum_to (λ i. heard_at l.picture (l.at + 2 * i)) l.i)

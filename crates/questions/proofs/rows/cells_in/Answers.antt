@@ -1,5 +1,4 @@
 -- `questions::rows::cells_in` meets its contract. Assumes nothing.
-use borrow.Author.Rules.{rules}
 use Rattle.questions.proofs.rows.cells_in.Goals as goal
 
 pub returns : goal.returns

@@ -1,6 +1,5 @@
 -- `questions::rows::fill_bytes` meets its contract. Assumes nothing.
 use Rattle.questions.proofs.Runs.{front_filled}
-use borrow.Author.Rules.{rules}
 use Rattle.questions.proofs.rows.fill_bytes.Goals as goal
 
 pub returns : goal.returns

@@ -4,7 +4,6 @@ use borrow.Author.Tests.{lt-ltb, le-ltb}
 use Rattle.questions.specs.Replies.{listing}
 use Rattle.questions.proofs.Replying.{both_of}
 use Rattle.questions.proofs.Filling.{fill-short, fill_done}
-use borrow.Author.Rules.{rules}
 use Rattle.questions.proofs.rows.listed.Goals as goal
 
 pub returns-then-picture-lt-SIZE : goal.returns-then-picture-lt-SIZE

@@ -1,6 +1,5 @@
 -- `questions::rows::listed_if` meets its contract. Assumes nothing.
 use borrow.Author.Tests.{lt-ltb, le-ltb}
-use borrow.Author.Rules.{rules}
 use Rattle.questions.proofs.rows.listed_if.Goals as goal
 
 pub returns-then-slot_of-lt-ROOM : goal.returns-then-slot_of-lt-ROOM

@@ -1,7 +1,6 @@
 -- `questions::values::kept` meets its contract. Assumes nothing.
 use borrow.Author.Tests.{lt-ltb, le-ltb}
 use Rattle.questions.specs.Replies.{kept_answer}
-use borrow.Author.Rules.{rules}
 use Rattle.questions.proofs.values.kept.Goals as goal
 
 pub returns-then-picture-lt-SIZE : goal.returns-then-picture-lt-SIZE

@@ -1,13 +1,14 @@
 -- `questions::values::place_in` meets its contract. Assumes nothing.
-use borrow.Author.Tests.{lt-ltb, le-ltb}
+use borrow.Author.Tests.{lt-ltb}
 use Rattle.questions.specs.Replies.{place_reply}
-use borrow.Author.Rules.{rules}
 use Rattle.questions.proofs.values.place_in.Goals as goal
 
-pub returns-then-place-lt-PLACES : goal.returns-then-place-lt-PLACES
+pub returns-in-Some : goal.returns-in-Some
 unfolding place_reply
-returns-then-place-lt-PLACES c = rw (lt-ltb _ _ c.if-place-lt-PLACES.true, ← c.place_at.ensures, ← c.answer_at.ensures)
+returns-in-Some c =
+    let place = c.in-Some.is in
+    rw (place, lt-ltb _ _ (rw place at c.requires.2), ← c.place_at.ensures) c.told_at.ensures
 
-pub returns-else-place-lt-PLACES : goal.returns-else-place-lt-PLACES
+pub returns-in-None : goal.returns-in-None
 unfolding place_reply
-returns-else-place-lt-PLACES c = rw (le-ltb _ _ c.if-place-lt-PLACES.false)
+returns-in-None c = rw c.in-None.is

@@ -2,11 +2,10 @@
 use Prim.Native.Nat.{◌+◌}
 use mathlib.Core.Path.{◌∙◌}
 use native.Mathlib.Omega.{arith}
-use borrow.Author.Rules.{rules}
 use lib.ListN.{length, set, length-set}
 use Rattle.laws.proofs.Copying.{copied_all}
 use Rattle.recording.proofs.Ranges.{ranged}
-use Rattle.recorder.proofs.Writing.{record-length, Headed, head-put, sets_record}
+use Rattle.recorder.proofs.Writing.{Headed, head-put, sets_record}
 use Rattle.recorder.proofs.writes.fill.Goals as goal
 use Rattle.recorder.proofs.writes.fill.Goals.{After-put_number}
 

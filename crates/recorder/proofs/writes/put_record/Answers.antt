@@ -2,11 +2,9 @@
 use Prim.Native.Nat.{◌+◌, ◌≤◌}
 use mathlib.Core.Path.{ap, sym, ◌∙◌}
 use native.Mathlib.Omega.{arith}
-use borrow.Author.Rules.{rules}
-use borrow.Author.Tests.{not-true, not-false}
 use lib.ListN.{length, length-take, length-drop}
 use Rattle.laws.proofs.Stores.{stored_in_part}
-use Rattle.recorder.specs.declared.writes.Put.TheVariants.{Wrote}
+use Rattle.std.specs.Prelude.{Ok}
 use Rattle.recorder.specs.Write.{record_bytes}
 use Rattle.recorder.proofs.Writing.{put_out_of_range, put_no_room, put-done}
 use Rattle.recorder.proofs.writes.put_record.Goals as goal
@@ -38,4 +36,4 @@ returns c =
     let bytes = record_bytes a.gap a.identifier a.remote a.«data».now in
     let fits : a.at + length bytes ≤ length a.buf.now = omega (arith, c.record_size-size.ensures) in
     let done = put-done a.buf.now a.at a.gap a.identifier a.remote a.«data».now (sym c.in_range.ensures ∙ c.if-not-in_range.false) fits in
-    record { value = ap Wrote c.record_size-size.ensures ∙ done.0; buf_after = stored_in_part a.buf.now a.at bytes c.fill.new.out fits c.fill.ensures ∙ done.1 }
+    record { value = ap Ok c.record_size-size.ensures ∙ done.0; buf_after = stored_in_part a.buf.now a.at bytes c.fill.new.out fits c.fill.ensures ∙ done.1 }

@@ -1,7 +1,6 @@
 -- `recorder::writes::record_size` meets its contract. Assumes nothing.
 use Prim.Native.Nat.{◌+◌, ◌*◌}
 use native.Mathlib.Omega.{arith}
-use borrow.Author.Rules.{rules}
 use lib.ListN.{length}
 use Rattle.groups.specs.Number.{most_groups}
 use Rattle.groups.proofs.Writing.{bytes_length}

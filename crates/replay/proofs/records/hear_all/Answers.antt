@@ -1,6 +1,6 @@
 -- `replay::records::hear_all` meets its contract. Assumes nothing.
-use Rattle.std.proofs.Common.{ap, ◌∙◌, arith, rules}
-use Rattle.replay.specs.declared.records.Replayed.TheVariants.{Heard}
+use Rattle.std.proofs.Common.{ap, ◌∙◌}
+use Rattle.std.specs.Prelude.{Ok}
 use Rattle.replay.proofs.Rooms.{replay_refused, replay_heard}
 use Rattle.replay.proofs.records.hear_all.Goals as goal
 
@@ -11,4 +11,4 @@ pub returns : goal.returns
 returns c =
     let a = c.args in
     let h = replay_heard a.picture.now a.s.now c.if-picture-lt-SIZE.false in
-    record { value = ap Heard c.hear_records-r.ensures.value ∙ h.0; picture_after = c.hear_records-r.ensures.picture_after ∙ h.1 }
+    record { value = ap Ok c.hear_records.ensures.value ∙ h.0; picture_after = c.hear_records.ensures.picture_after ∙ h.1 }

@@ -1,7 +1,7 @@
 -- `replay::window::turn` meets its contract. Assumes nothing.
-use Rattle.std.proofs.Common.{◌≡◌, ℕ, ◌-◌, ◌≤◌, List, length, take, ap, ◌∙◌, arith, length-take-le, rules}
+use Rattle.std.proofs.Common.{◌≡◌, ℕ, ◌-◌, ◌≤◌, List, length, take, sym, ap, subst, ◌∙◌, arith, length-take-le}
 use native.Mathlib.Nat.{sub-zero}
-use Rattle.replay.specs.Replay.{heard_by, replayed}
+use Rattle.replay.specs.Replay.{Replay, heard_by, replayed}
 use Rattle.replay.proofs.Runs.{stops_inside}
 use Rattle.replay.proofs.window.turn.Goals as goal
 use Rattle.replay.proofs.window.turn.Goals.{After-hear_records-r}
@@ -12,7 +12,7 @@ inside c =
     let w = c.args.window.now in
     let k = c.args.filled in
     let long : length (take (k - 0) w) ≡ k - 0 = length-take-le (k - 0) w (omega (arith, c.requires)) in
-    let h : c.hear_records-r.result.at ≤ length (take (k - 0) w) = rw c.hear_records-r.ensures.value (stops_inside heard_by c.args.picture.now (take (k - 0) w)) in
+    let h : c.hear_records-r.result.at ≤ length (take (k - 0) w) = subst (λ (r : Replay). r.at ≤ length (take (k - 0) w)) (sym c.hear_records-r.ensures.value) (stops_inside heard_by c.args.picture.now (take (k - 0) w)) in
     omega arith
 
 pub shift-requires : goal.shift-requires

@@ -1,7 +1,6 @@
 -- `results::words::room_word` meets its contract. Assumes nothing.
 use borrow.Author.Tests.{le-leb, lt-leb}
 use native.Mathlib.Omega.{arith}
-use borrow.Author.Rules.{rules}
 use Rattle.results.proofs.words.room_word.Goals as goal
 
 pub returns-then-need-room : goal.returns-then-need-room

@@ -1,20 +1,12 @@
 -- `steering::clearing::clear_head` meets its contract. Assumes nothing.
-use Rattle.std.proofs.Common.{◌≡◌, ◌-◌, ◌≤◌, length, refl, ap, ◌∙◌, le_antisymm, arith, rules}
+use Rattle.std.proofs.Common.{◌≡◌, ◌++◌, length, take, drop, replicate, ap, ◌∙◌}
+use Rattle.std.proofs.Math.Seq.{length-take-le}
 use Rattle.shape.specs.Layout.{head_size}
-use Rattle.steering.specs.Fresh.{zeroed}
-use Rattle.steering.proofs.Zeroed.{zeroed-none, zeroed-more}
+use Rattle.steering.proofs.Zeroed.{zeroed_front}
 use Rattle.steering.proofs.clearing.clear_head.Goals as goal
 
-pub loop-i-init : goal.loop-i-init
-loop-i-init c = (omega arith, refl, zeroed-none _)
-
-pub loop-i-preserved : goal.loop-i-preserved
-loop-i-preserved c =
-    let l = c.loop-i in
-    (omega arith, c.put_at.auto.s ∙ l.invariant.1, zeroed-more _ _ l.invariant.2 c.put_at.ensures)
-
-pub shape_of-picture : goal.shape_of-picture
-shape_of-picture c = c.loop-i.invariant.1
-
 pub returns : goal.returns
-returns c = c.loop-i.invariant.2 ∙ ap (zeroed _) (le_antisymm c.loop-i.invariant.0 c.loop-i-test.false)
+returns c =
+    let p = c.args.picture.now in
+    let n : length (take head_size p) ≡ head_size = length-take-le head_size p c.requires in
+    ap (λ xs. xs ++ drop head_size p) (c.fill.ensures.after (λ y e. e) ∙ ap (λ k. replicate k 0) n) ∙ zeroed_front p head_size c.requires

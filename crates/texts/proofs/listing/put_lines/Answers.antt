@@ -1,7 +1,7 @@
 -- `texts::listing::put_lines` meets its contract. Assumes nothing.
-use borrow.Author.Rules.{rules}
 use mathlib.Core.List.{◌++◌}
 use Rattle.shape.specs.Limits.{addresses}
+use Rattle.replay.specs.Window.{told_stream}
 use Rattle.texts.specs.Text.{Fits}
 use Rattle.texts.specs.Lines.{header, count_line}
 use Rattle.texts.specs.Listing.{modules_text, fault_text, listing_text}
@@ -10,12 +10,12 @@ use Rattle.texts.proofs.listing.put_lines.Goals as goal
 use Rattle.texts.proofs.listing.put_lines.Goals.{Start}
 
 -- the room of all but the last line, and of the lines of the modules with the header
-most-room : (c : Start) → Fits c.args.out.now 0 (header ++ modules_text c.args.picture.now addresses ++ fault_text c.args.stream.refusal c.args.stream.offset)
+most-room : (c : Start) → Fits c.args.out.now 0 (header ++ modules_text c.args.picture.now addresses ++ fault_text (told_stream c.args.stream).fault)
 unfolding listing_text
 most-room c = room-first (count_line c.args.stream.heard c.args.stream.refused) c.requires
 
 modules-room : (c : Start) → Fits c.args.out.now 0 (header ++ modules_text c.args.picture.now addresses)
-modules-room c = room-first (fault_text c.args.stream.refusal c.args.stream.offset) (most-room c)
+modules-room c = room-first (fault_text (told_stream c.args.stream).fault) (most-room c)
 
 pub put_header-modules-requires : goal.put_header-modules-requires
 put_header-modules-requires c = room-first (modules_text c.args.picture.now addresses) (modules-room (goal.at.put_header-modules-requires c).Start)

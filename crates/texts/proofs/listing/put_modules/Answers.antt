@@ -1,10 +1,5 @@
--- `texts::listing::put_modules` meets its contract. The loop's invariant: the lines of the addresses before this one are put. Assumes nothing.
-use Prim.Native.Nat.{ℕ, ◌-◌, ◌≤◌}
-use mathlib.Core.Path.{◌≡◌, refl, sym, subst}
-use mathlib.Core.List.{List}
-use native.Mathlib.Omega.{arith}
-use borrow.Author.Rules.{rules}
-use lib.ListN.{length}
+-- `texts::listing::put_modules` meets its contract. Assumes nothing.
+use Rattle.std.proofs.Common.{◌≡◌, ℕ, List, sym, subst, arith}
 use Rattle.shape.specs.Limits.{addresses}
 use Rattle.texts.specs.Text.{Written}
 use Rattle.texts.specs.Listing.{modules_text}
@@ -15,26 +10,23 @@ use Rattle.texts.proofs.listing.put_modules.Goals as goal
 pub loop-address-init : goal.loop-address-init
 loop-address-init c =
     let a = c.args in
-    (omega arith, refl, nothing a.out.now a.at (modules_text a.picture.now 0) (modules_none a.picture.now))
+    nothing a.out.now a.at (modules_text a.picture.now 0) (modules_none a.picture.now)
 
 pub put_module-next-requires : goal.put_module-next-requires
 put_module-next-requires c =
     let l = c.loop-address in
-    module_room c.args.picture.now l.address (omega arith) l.invariant.2 c.requires
+    module_room c.args.picture.now l.address (omega arith) l.invariant c.requires
 
 pub loop-address-preserved : goal.loop-address-preserved
 loop-address-preserved c =
     let l = c.loop-address in
     let a = c.args in
-    let p = c.put_module-next in (
-      omega arith,
-      omega arith,
-      subst (λ (text : List ℕ). Written a.out.now a.at text p.new.out p.result) (sym (modules_more a.picture.now l.address)) (followed l.invariant.2 p.ensures),
-    )
+    let p = c.put_module-next in
+    subst (λ (text : List ℕ). Written a.out.now a.at text p.new.out p.result) (sym (modules_more a.picture.now l.address)) (followed l.invariant p.ensures)
 
 pub returns : goal.returns
 returns c =
     let l = c.loop-address in
     let a = c.args in
     let e : l.address ≡ addresses = omega arith in
-    subst (λ (n : ℕ). Written a.out.now a.at (modules_text a.picture.now n) l.out l.next) e l.invariant.2
+    subst (λ (n : ℕ). Written a.out.now a.at (modules_text a.picture.now n) l.out l.next) e l.invariant

@@ -1,16 +1,9 @@
--- `texts::sheets::told_in` meets its contract. The loop's invariant: the numbers before i are counted. Assumes nothing.
-use Prim.Native.Nat.{◌-◌, ◌≤◌}
-use mathlib.Core.Path.{◌≡◌, ap, ◌∙◌}
-use lib.ListN.{get_or}
-use native.Mathlib.Omega.{arith}
-use borrow.Author.Rules.{rules}
+-- `texts::sheets::told_in` meets its contract. Assumes nothing.
+use Rattle.std.proofs.Common.{◌≡◌, ◌≤◌, get_or}
 use Rattle.questions.specs.Fills.{sum_to}
-use Rattle.questions.proofs.Filling.{sum-none, sum_more}
 use Rattle.texts.specs.Sheets.{told_number}
 use Rattle.texts.proofs.sheets.told_in.Given as goal
 
-abbrev pub invariant-loop-i : goal.invariant-loop-i
-invariant-loop-i l = (l.i ≤ l.n) × (l.count ≤ l.i) × (l.count ≡ sum_to (λ i. told_number (get_or l.row i 0)) l.i)
-
-abbrev pub decreases-loop-i : goal.decreases-loop-i
-decreases-loop-i l = l.n - l.i
+-- the numbers before this one are counted
+abbrev pub invariant-loop-number : goal.invariant-loop-number
+invariant-loop-number l = (l.count ≤ l.number-index) × (l.count ≡ sum_to (λ i. told_number (get_or l.row i 0)) l.number-index)

@@ -1,6 +1,5 @@
 -- `velbus::plans::velbus_plan` meets its contract. Assumes nothing.
-use borrow.Author.Rules.{rules}
 use Rattle.velbus.proofs.plans.velbus_plan.Goals as goal
 
 pub returns : goal.returns
-returns c = record { value = rw (← c.plan_bytes.ensures.value) c.answer_word.ensures; out_after = c.plan_bytes.ensures.out_after }
+returns c = record { value = rw (← c.plan_bytes.ensures.value) c.value_word.ensures; out_after = c.plan_bytes.ensures.out_after }

@@ -1,9 +1,0 @@
--- `fields::fields::channel_fault` meets its contract.
--- Assumes nothing.
-use mathlib.Core.Path.{refl}
-use Rattle.fields.proofs.Codes.{told}
-use borrow.Author.Rules.{rules}
-use Rattle.fields.proofs.fields.channel_fault.Goals as goal
-
-pub returns : goal.returns
-returns c = rw (told _ 2 _ refl, c.unless.ensures, c.channel_allowed.ensures)
