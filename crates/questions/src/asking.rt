@@ -8,7 +8,7 @@ ghost use Rattle.questions.specs.Replies.{slot_asked, module_asked, answer_at};
 
 use frame::Address;
 use laws::{Refusal, number16};
-use shape::{ADDRESSES, NO_SLOT, NOT_HEARD, ROOM, SIZE, slot_of};
+use shape::{ADDRESSES, NO_SLOT, NOT_HEARD, SIZE, listed_slot, slot_of};
 
 // What a question names may be any number. An address and a location are types of their own, so that neither stands for the other.
 #[derive(Clone, Copy)]
@@ -37,12 +37,13 @@ pub fn module_asked(picture: &[u8], address: AddressAsked) -> Result<u8, Refusal
     if picture.len() < SIZE {
         return Err(Refusal::TooShort);
     }
-    let slot = slot_asked(picture, address);
-    if slot < ROOM {
-        Ok(slot)
-    } else {
-        Err(Refusal::TypeNotKnown)
+    let number = address.0;
+    if number < ADDRESSES {
+        if let Some(slot) = listed_slot(picture, Address(number as u8)) {
+            return Ok(slot);
+        }
     }
+    Err(Refusal::TypeNotKnown)
 }
 
 // The two bytes of a place as one number, low byte first. The function does nothing else with them, so that it is one load.

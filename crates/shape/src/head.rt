@@ -1,7 +1,8 @@
 // What steers: how many modules there are, how many steps are kept and may be, the ring's next entry, the slot and the type of an address.
 // Each byte that steers an index is guarded where it is read, so that any bytes at all are safe.
-ghost use Rattle.std.specs.Prelude.{◌≡◌, ltb};
-ghost use Rattle.shape.specs.Head.{modules_of, kept_of, next_of, depth_of, believed, slot_of, kind_in};
+ghost use Rattle.std.specs.Prelude.{◌≡◌, ◌<◌, ltb, IfSome, unwrap_or};
+ghost use Rattle.shape.specs.Limits.{room};
+ghost use Rattle.shape.specs.Head.{modules_of, kept_of, next_of, depth_of, no_slot, believed, slot_of, kind_in};
 
 use crate::layout::{
     COUNT_AT, DEPTH_AT, KEPT_AT, NEXT_AT, RING, ROOM, kind_at, record_at, slot_at,
@@ -62,15 +63,24 @@ fn believed(picture: &[u8], address: Address, slot: u8) -> bool
     }
 }
 
-pub fn slot_of(picture: &[u8], address: Address) -> u8
-    ensures { result ≡ slot_of picture.now address.0 }
+// The slot of the module that is listed at an address. An Option: a number for no slot would be chosen here, and tested once more by a caller.
+pub fn listed_slot(picture: &[u8], address: Address) -> Option<u8>
+    ensures value { unwrap_or result no_slot ≡ slot_of picture.now address.0 }
+    ensures in_room { IfSome result (λ slot. slot < room) }
 {
     let slot = byte_at(picture, slot_at(address));
     if believed(picture, address, slot) {
-        slot
+        Some(slot)
     } else {
-        NO_SLOT
+        None
     }
+}
+
+// The same as a number.
+pub fn slot_of(picture: &[u8], address: Address) -> u8
+    ensures { result ≡ slot_of picture.now address.0 }
+{
+    listed_slot(picture, address).unwrap_or(NO_SLOT)
 }
 
 pub fn kind_in(picture: &[u8], slot: u8) -> u8
