@@ -1,6 +1,6 @@
 -- Demand 3, as specs/Demand3.antt states it. Assumes nothing.
 use Rattle.shape.specs.Answers.{Outcome}
-use Rattle.std.specs.Prelude.{Ok, Err, Some, None}
+use Rattle.std.specs.Prelude.{Ok, Err, Option, Some, None}
 use Prim.Native.Nat.{ℕ, zero, suc, ◌+◌, ◌-◌, ◌<◌, ◌≤◌}
 use native.Mathlib.Omega.{arith}
 use mathlib.Core.Path.{◌≡◌, refl, ap, ◌∙◌}
@@ -24,7 +24,7 @@ use Rattle.replay.specs.Replay.{Run, is_done, one, heard_by, replayed, run_step,
 use Rattle.replay.proofs.Runs.{standing, stops}
 use Rattle.replay.proofs.AllTurns.{turns_are_replay}
 use Rattle.replay.proofs.Rooms.{all_is_replay, call_is_turn}
-use Rattle.demands.specs.Demand3.{back_after, Granted, NotGranted, frames_by, frames_from, stop_by, stop_from, fault_of, accepting, refusing, counting, RecordingsHeard, Demand3}
+use Rattle.demands.specs.Demand3.{back_after, Granted, NotGranted, frames_by, frames_from, stop_by, stop_from, fault_of, offset_of, stopped_at, accepting, refusing, counting, RecordingsHeard, Demand3}
 
 -- ---- a step back
 back_answer : (b : List ℕ) → size ≤ length b → (d : ℕ) → d ≤ deepest → (h : List Event) → back_after b d h ≡ outcome_of (granted (kept d h))
@@ -105,11 +105,15 @@ module _ (s : List ℕ) where
       let past : length s ≤ r.at = only_past_end s r.at (t.there ∙ ap standing none) in
       omega (arith, t.inside, past)
 
+  offset_by : (at : ℕ) (fault : Option (ℕ × ℕ)) (e : Entry) → fault ≡ fault_of e → (fault ≡ None → at ≡ length s) → stopped_at at fault ≡ offset_of s e
+  offset_by at fault (Ok entry) e whole = ap (stopped_at at) e ∙ whole e
+  offset_by at fault (Err stop) e whole = ap (stopped_at at) e
+
 recordings_heard : RecordingsHeard
 recordings_heard b s =
     let h = heard_from_lem s (suc (length s)) b 0 0 0 in
     let f = stopped_from s (suc (length s)) b 0 0 0 (omega arith) (omega arith) in
-    record { picture = h.picture; heard = omega (arith, h.heard_is); refused = omega (arith, h.refused_is); fault = f; whole = read_whole s b }
+    record { picture = h.picture; heard = omega (arith, h.heard_is); refused = omega (arith, h.refused_is); fault = f; offset = offset_by s _ _ _ f (read_whole s b); whole = read_whole s b }
 
 pub demand_3 : Demand3
 demand_3 =

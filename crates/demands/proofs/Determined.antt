@@ -1,7 +1,7 @@
 -- No promise leaves a choice, as specs/Determined.antt states it: one law for every line. Assumes nothing.
 use Rattle.laws.proofs.Promises.{of_answer, of_lent, of_two_lent, no_choice}
 use Rattle.demands.specs.Determined.{Determined}
-use Rattle.demands.proofs.Codes.{one_code, one_result, one_record, one_replay, one_part}
+use Rattle.demands.proofs.Codes.{one_code, one_result, one_test, one_value, one_filling, one_judgement, one_place, one_record, one_replay, one_part}
 
 pub determined : Determined
 determined =
@@ -9,6 +9,11 @@ determined =
       no_choice = no_choice;
       one_code = one_code;
       one_result = one_result;
+      one_test = one_test;
+      one_value = one_value;
+      one_filling = one_filling;
+      one_judgement = one_judgement;
+      one_place = one_place;
       one_record = one_record;
       one_replay = one_replay;
       one_part = one_part;

@@ -58,6 +58,15 @@ abbrev pub fault_of : Entry → Option (ℕ × ℕ)
 fault_of (Ok entry) = None
 fault_of (Err fault) = Some fault
 
+-- its offset, the input's length where it is no fault; and the offset where a replay stopped
+abbrev pub offset_of : List ℕ → Entry → ℕ
+offset_of s (Ok entry) = length s
+offset_of s (Err fault) = fault.1
+
+abbrev pub stopped_at : ℕ → Option (ℕ × ℕ) → ℕ
+stopped_at at None = at
+stopped_at at (Some fault) = fault.1
+
 -- how many of the frames are accepted, and how many not, heard one after the other
 abbrev pub accepting : Outcome → ℕ
 accepting (Ok tt) = 1
@@ -78,6 +87,7 @@ pub record Replays (b s : List ℕ) : Type 0 where
   pub heard : (replayed heard_by b s).replay.heard ≡ counting accepting b (frames_of s)
   pub refused : (replayed heard_by b s).replay.refused ≡ counting refusing b (frames_of s)
   pub fault : (replayed heard_by b s).replay.fault ≡ fault_of (stop_of s)
+  pub offset : stopped_at (replayed heard_by b s).replay.at (replayed heard_by b s).replay.fault ≡ offset_of s (stop_of s)
   pub whole : (replayed heard_by b s).replay.fault ≡ None → (replayed heard_by b s).replay.at ≡ length s
 
 abbrev pub RecordingsHeard : Type 0

@@ -1,19 +1,21 @@
 -- A promise leaves a function no choice: two results that satisfy it are equal. Once for each public function that is lent a buffer (but for
 -- `inputs`, which reads what no definition knows): its contract is that the answer, in the papers' numbers, and the buffer's final contents are these
 -- definitions'. The proof is proofs/Determined.antt.
-use Rattle.std.specs.Prelude.{ℕ, ◌≡◌, List, length, set, Result as Answered}
-use Rattle.laws.specs.Codes.{code_of, coded}
+use Rattle.std.specs.Prelude.{ℕ, ◌≡◌, ◌<◌, ◌≤◌, Bool, List, length, set, Option, IfSome, unwrap_or, Result as Answered}
+use Rattle.laws.specs.Codes.{code_of, coded, code_in}
 use Rattle.laws.specs.Copies.{copied_in}
 use Rattle.laws.specs.declared.refusals.Refusal.{Refusal}
 use Rattle.laws.specs.Promises.{OneAnswer, OneResult, OneOutcome, NoChoice}
 use Rattle.judging.specs.Reading.{reading}
+use Rattle.places.specs.Places.{places, nowhere}
+use Rattle.shape.specs.Answers.{valued, filled}
 use Rattle.shape.specs.Result.{Result}
 use Rattle.picture.specs.Hearing.{hearing}
 use Rattle.stores.specs.Stepping.{stepping_back}
 use Rattle.steering.specs.Fresh.{freshening_with, freshening}
 use Rattle.questions.specs.Question.{Question, Reply}
 use Rattle.questions.specs.Replies.{listing, reply}
-use Rattle.plan.specs.Replies.{plan_reply, plan_bytes_reply}
+use Rattle.plan.specs.Replies.{judged, plan_reply, plan_bytes_reply}
 use Rattle.groups.specs.Write.{put_groups, put_into}
 use Rattle.recorder.specs.Write.{put_answer, put_bytes}
 use Rattle.recording.specs.Record.{told}
@@ -46,6 +48,11 @@ pub record Determined : Type 1 where
   -- and no two answers of the code's own come to one in the paper's numbers
   pub one_code : (x y : Refusal) → code_of x ≡ code_of y → x ≡ y
   pub one_result : {A : Type 0} (x y : Answered A Refusal) → coded x ≡ coded y → x ≡ y
+  pub one_test : (x y : Answered (Unit {0}) Refusal) → code_in x ≡ code_in y → x ≡ y
+  pub one_value : (x y : Answered ℕ Refusal) → valued (coded x) ≡ valued (coded y) → x ≡ y
+  pub one_filling : (x y : Answered (Unit {0}) Refusal) → filled (coded x) ≡ filled (coded y) → x ≡ y
+  pub one_judgement : (x y : Answered Bool Refusal) → judged (coded x) ≡ judged (coded y) → x ≡ y
+  pub one_place : (x y : Option ℕ) → IfSome x (λ place. place < places) → IfSome y (λ place. place < places) → unwrap_or x nowhere ≡ unwrap_or y nowhere → x ≡ y
   pub one_record : {A : Type 0} (x y : Answered A Fault) → told x ≡ told y → x ≡ y
   pub one_replay : (x y : Answered code.Replay Refusal) → told_replayed x ≡ told_replayed y → x ≡ y
   pub one_part : (x y : Answered part.Stream Refusal) → told_part x ≡ told_part y → x ≡ y

@@ -39,7 +39,7 @@ fn read_more<R: Read>(input: &mut R, window: &mut [u8], left: usize) -> io::Resu
 // Whether a bad number was found, which no later part mends.
 fn has_bad_number(stream: Stream) -> bool {
     match stream.fault {
-        Some(fault) => fault.refusal == Refusal::BadNumber,
+        Some(fault) => fault.refusal == Refusal::BadNumber.code(),
         None => false,
     }
 }

@@ -7,7 +7,7 @@ use mathlib.Core.List.{List, ◌++◌}
 use lib.Dec.{leb}
 use lib.ListN.{length, drop}
 use borrow.Author.Tests.{lt-ltb, le-ltb, le-leb, lt-leb, leb-true, leb-false, eq-eqb, ne_eqb}
-use Rattle.std.specs.Prelude.{Result, Ok, Err}
+use Rattle.std.specs.Prelude.{Some, Result, Ok, Err}
 use Rattle.laws.specs.declared.refusals.Refusal.{Refusal}
 use Rattle.laws.specs.Codes.{code_of, coded}
 use Rattle.laws.specs.Refusals.{too_short}
@@ -24,7 +24,7 @@ use Rattle.questions.proofs.RowBytes.{length_bytes}
 use Rattle.reads.specs.Reads.{block}
 use Rattle.reads.specs.Plan.{plan_of, least_reads}
 use Rattle.reads.specs.Judging.{right_plan}
-use Rattle.plan.specs.Replies.{row_at, memory_in, at_module, laid, starts_in, right_in_bytes}
+use Rattle.plan.specs.Replies.{row_at, memory_in, at_module, laid, yes_no, judged, starts_in, right_in_bytes}
 use Rattle.plan.proofs.CellRow.{row-length}
 use Rattle.reads.proofs.Judging.{wrong_count}
 use Rattle.plan.proofs.Turns.{few_reads}
@@ -88,7 +88,12 @@ module _ (row out : List ℕ) {r : Bool} (e : r ≡ leb (least_reads row) (lengt
   pub bytes_short : r ≡ false → length out < length (in_bytes (plan_of row))
   bytes_short t = omega (arith, length_bytes (plan_of row), entries-short row (length out / 2) e t)
 
--- ---- a proposed plan in bytes
+-- ---- a proposed plan: yes is 1, and no is 0
+pub judged_says : (answer : Bool) → judged (Ok answer) ≡ Ok (Some (yes_no answer))
+judged_says true = refl
+judged_says false = refl
+
+-- in bytes
 pub starts_length : (bytes : List ℕ) → length (starts_in bytes) ≡ length bytes / 2
 starts_length bytes = row-length bytes 0 (length bytes / 2)
 

@@ -1,5 +1,5 @@
 -- The calls on a picture's bytes, for every list of bytes. Refusals in order: 13 for the picture, 5, 13 for the list to fill. Assumes nothing.
-use Rattle.std.specs.Prelude.{ℕ, ◌+◌, ◌*◌, ◌/◌, ◌%◌, Bool, cond, ◌&&◌, List, ◌++◌, leb, ltb, eqb, length, drop, Some, Result, Ok, Err}
+use Rattle.std.specs.Prelude.{ℕ, ◌+◌, ◌*◌, ◌/◌, ◌%◌, Bool, true, false, cond, ◌&&◌, List, ◌++◌, leb, ltb, eqb, length, drop, Some, Result, Ok, Err}
 use Rattle.laws.specs.Refusals.{type_not_known, too_short}
 use Rattle.laws.specs.Tab.{tab}
 use Rattle.shape.specs.Answers.{Answer}
@@ -45,7 +45,8 @@ abbrev pub yes_no : Bool → ℕ
 yes_no answer = cond answer 1 0
 
 abbrev pub judged : Result Bool ℕ → Answer
-judged (Ok answer) = Ok (Some (yes_no answer))
+judged (Ok true) = Ok (Some 1)
+judged (Ok false) = Ok (Some 0)
 judged (Err n) = Err n
 
 abbrev pub right_answer : List ℕ → ℕ → List ℕ → Answer

@@ -4,7 +4,7 @@ use Rattle.laws.specs.Answers as numbers
 use Rattle.laws.specs.Refusals.{too_short}
 use Rattle.laws.specs.declared.refusals.Refusal.{Refusal}
 use Rattle.laws.specs.Codes.{code_of}
-use Rattle.recording.specs.Record.{told_fault}
+use Rattle.replay.specs.declared.window.Stop.{Stop}
 use Rattle.replay.specs.declared.window.Stream as code
 use Rattle.replay.specs.Replay.{Hearing, Replay, Run, heard_by, replayed, with_room}
 
@@ -33,8 +33,11 @@ pub record Stream : Type 0 where
   pub fault : Option (ℕ × ℕ)
 
 -- the same, of what the code holds
+abbrev pub told_stop : Stop → ℕ × ℕ
+told_stop stop = (stop.refusal, stop.offset)
+
 abbrev pub told_stream : code.Stream → Stream
-told_stream st = record { heard = st.heard; refused = st.refused; base = st.base; left = st.left; fault = option_map told_fault st.fault }
+told_stream st = record { heard = st.heard; refused = st.refused; base = st.base; left = st.left; fault = option_map told_stop st.fault }
 
 -- an answer of `hear_part`, so
 abbrev pub told_part : Result code.Stream Refusal → Result Stream ℕ

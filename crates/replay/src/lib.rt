@@ -5,4 +5,4 @@ mod records;
 mod window;
 
 pub use records::{Replay, hear_all};
-pub use window::{Stream, begin, hear_part};
+pub use window::{Stop, Stream, begin, hear_part};

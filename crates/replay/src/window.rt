@@ -1,14 +1,20 @@
 // Hearing an input that comes in parts, through a window: a buffer whose first bytes are what is not yet heard.
 ghost use Rattle.std.specs.Prelude.{◌≡◌, ◌+◌, ◌≤◌, length, take, nat_le};
 ghost use Rattle.laws.specs.Codes.{code_of};
-ghost use Rattle.recording.specs.Record.{told_fault};
 ghost use Rattle.replay.specs.Replay.{heard_by, replayed, told_replay};
-ghost use Rattle.replay.specs.Window.{kept, told_stream, told_part, shifted, advanced, begun, part_answer, part_picture, part_window};
+ghost use Rattle.replay.specs.Window.{kept, told_stop, told_stream, told_part, shifted, advanced, begun, part_answer, part_picture, part_window};
 
 use crate::records::{Replay, hear_records};
 use laws::Refusal;
 use recording::Fault;
 use shape::SIZE;
+
+// Where the hearing stopped before the end: the refusal's number, which may be any that a caller hands in, and its offset.
+#[derive(Clone, Copy, Debug, PartialEq, Eq)]
+pub struct Stop {
+    pub refusal: u16,
+    pub offset: u64,
+}
 
 // What is kept between two parts: the records accepted and refused, the offset of the window's first byte, how many of the window's
 // bytes are not yet heard, and the fault that stopped the hearing, where the end did not. The counts and the offsets are kept modulo 2^64.
@@ -18,7 +24,7 @@ pub struct Stream {
     pub refused: u64,
     pub base: u64,
     pub left: usize,
-    pub fault: Option<Fault>,
+    pub fault: Option<Stop>,
 }
 
 // Moves the bytes from `from` to `filled` to the front.
@@ -56,12 +62,12 @@ fn fits(left: usize, n: usize, len: usize) -> bool
 }
 
 // A fault in the window, at its offset in the whole input.
-fn in_input(base: u64, fault: Fault) -> Fault
-    ensures { told_fault result ≡ (code_of fault.refusal, kept (base + fault.offset)) }
+fn in_input(base: u64, fault: Fault) -> Stop
+    ensures { told_stop result ≡ (code_of fault.refusal, kept (base + fault.offset)) }
 {
-    Fault {
-        refusal: fault.refusal,
-        offset: std::num::wrapping_add_u64(base, fault.offset as u64) as usize,
+    Stop {
+        refusal: fault.refusal.code(),
+        offset: std::num::wrapping_add_u64(base, fault.offset as u64),
     }
 }
 

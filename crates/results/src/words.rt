@@ -1,35 +1,36 @@
 // The result word: bits 0 to 15 the value; bits 16 to 23 the refusal number; bits 24 to 31 the number of the data byte that a 9 comes with.
 ghost use Rattle.std.specs.Prelude.{◌≡◌};
-ghost use Rattle.laws.specs.Codes.{code_of, coded};
+ghost use Rattle.laws.specs.Codes.{coded};
 ghost use Rattle.shape.specs.Answers.{valued, filled};
 ghost use Rattle.results.specs.Words.{refused_word, outcome_word, answer_word, room_word};
 
 use laws::Refusal;
 use shape::NOT_HEARD;
 
-pub fn refused(refusal: Refusal) -> u32
-    ensures { result ≡ refused_word (code_of refusal) }
+// Any number is taken for a refusal's, in its own word or in an answer's: a caller may have its own.
+pub fn refused(code: u16) -> u32
+    ensures { result ≡ refused_word code }
 {
-    65536 * refusal.code() as u32
+    65536 * code as u32
 }
 
-pub fn outcome_word(outcome: Result<(), Refusal>) -> u32
-    ensures { result ≡ outcome_word (coded outcome) }
+pub fn outcome_word(outcome: Result<(), u16>) -> u32
+    ensures { result ≡ outcome_word outcome }
 {
     match outcome {
         Ok(()) => 0,
-        Err(refusal) => refused(refusal),
+        Err(code) => refused(code),
     }
 }
 
 // Of a question on a place, which may be not heard.
-pub fn answer_word(answer: Result<Option<u16>, Refusal>) -> u32
-    ensures { result ≡ answer_word (coded answer) }
+pub fn answer_word(answer: Result<Option<u16>, u16>) -> u32
+    ensures { result ≡ answer_word answer }
 {
     match answer {
         Ok(Some(value)) => value as u32,
         Ok(None) => NOT_HEARD as u32,
-        Err(refusal) => refused(refusal),
+        Err(code) => refused(code),
     }
 }
 
@@ -39,7 +40,7 @@ pub fn value_word(answer: Result<u16, Refusal>) -> u32
 {
     match answer {
         Ok(value) => value as u32,
-        Err(refusal) => refused(refusal),
+        Err(refusal) => refused(refusal.code()),
     }
 }
 
@@ -49,7 +50,7 @@ pub fn filled_word(answer: Result<(), Refusal>) -> u32
 {
     match answer {
         Ok(()) => 0,
-        Err(refusal) => refused(refusal),
+        Err(reason) => refused(reason.code()),
     }
 }
 
@@ -60,6 +61,6 @@ pub fn room_word(room: usize, need: u16) -> u32
     if need as usize <= room {
         need as u32
     } else {
-        refused(Refusal::TooShort)
+        refused(Refusal::TooShort.code())
     }
 }

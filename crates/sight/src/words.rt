@@ -18,7 +18,7 @@ fn taken_word(taken: Result<u16, Refusal>) -> u32
 {
     match taken {
         Ok(count) => count as u32,
-        Err(refusal) => refused(refusal),
+        Err(refusal) => refused(refusal.code()),
     }
 }
 
@@ -48,7 +48,7 @@ pub fn take_word(
     ensures replies_after { replies.new ≡ (taking bench.old identifier remote «data».now replies.old).buffer }
 {
     if bench.len() < SIZE {
-        return refused(Refusal::TooShort);
+        return refused(Refusal::TooShort.code());
     }
     let address = byte_at(bench, ADDRESS_AT);
     if identifier != LOWEST + 2 * wide32(address) {

@@ -1,8 +1,7 @@
 // The listing of a picture, with the counts and the fault of the recording that it heard.
 ghost use Rattle.std.specs.Prelude.{option_map, ◌≡◌, ◌≤◌, length};
 ghost use Rattle.laws.specs.Codes.{coded};
-ghost use Rattle.recording.specs.Record.{told_fault};
-ghost use Rattle.replay.specs.Window.{told_stream};
+ghost use Rattle.replay.specs.Window.{told_stop, told_stream};
 ghost use Rattle.shape.specs.Layout.{size};
 ghost use Rattle.shape.specs.Limits.{addresses};
 ghost use Rattle.texts.specs.Text.{Fits, Written};
@@ -12,8 +11,7 @@ use crate::lines::{put_broken_line, put_count_line, put_header, put_module_line}
 use crate::sheets::{told_cells, whole_names};
 use laws::{Refusal, copy_in, wide32};
 use questions::AddressAsked;
-use recording::Fault;
-use replay::Stream;
+use replay::{Stop, Stream};
 use shape::{ADDRESSES, SIZE};
 
 // The room that the longest listing takes: that of the longest line for each address and for three lines more.
@@ -56,12 +54,12 @@ fn put_modules(picture: &[u8], out: &mut [u8], at: usize) -> usize
 }
 
 // The line of a fault, nothing where there is none.
-fn put_fault(out: &mut [u8], at: usize, fault: Option<Fault>) -> usize
-    requires { Fits out.old at (fault_text (option_map told_fault fault)) }
-    ensures { Written out.old at (fault_text (option_map told_fault fault)) out.new result }
+fn put_fault(out: &mut [u8], at: usize, fault: Option<Stop>) -> usize
+    requires { Fits out.old at (fault_text (option_map told_stop fault)) }
+    ensures { Written out.old at (fault_text (option_map told_stop fault)) out.new result }
 {
     match fault {
-        Some(fault) => put_broken_line(out, at, fault.offset as u64, fault.refusal.code() as u64),
+        Some(fault) => put_broken_line(out, at, fault.offset, fault.refusal as u64),
         None => at,
     }
 }

@@ -6,6 +6,7 @@ ghost use Rattle.taking.specs.Taking.{taking};
 ghost use Rattle.sight.specs.Words.{taken_word};
 ghost use Rattle.results.specs.Words.{outcome_word};
 
+use crate::codes::by_code;
 use results::outcome_word;
 
 pub fn velbus_bench_size() -> u32
@@ -25,7 +26,7 @@ pub fn velbus_bench_new(
     ensures value { result ≡ outcome_word (making bench.old address cells.now version year week).outcome }
     ensures bench_after { bench.new ≡ (making bench.old address cells.now version year week).buffer }
 {
-    outcome_word(bench::bench_new(bench, address, cells, version, year, week))
+    outcome_word(by_code(bench::bench_new(bench, address, cells, version, year, week)))
 }
 
 pub fn velbus_bench_take(

@@ -31,7 +31,7 @@ pub fn velbus_read(kind: u32, identifier: u32, remote: u32, data: &[u8], message
 {
     match reader::read(kind, identifier, remote, data) {
         Ok((a, m)) => lay_message(message, a, m),
-        Err(refusal) => refused(refusal),
+        Err(refusal) => refused(refusal.code()),
     }
 }
 
@@ -51,7 +51,7 @@ fn write_message(kind: u32, a: Address, m: Message, out: &mut [u8]) -> u32
 {
     match codec::write(kind, a, m) {
         Ok(f) => lay_frame(out, f),
-        Err(refusal) => refused(refusal),
+        Err(refusal) => refused(refusal.code()),
     }
 }
 
@@ -60,8 +60,8 @@ fn unheld_word(kind: u32) -> u32
     ensures { result ≡ refused_word (handed_refusal kind not_listed) }
 {
     match handed(kind) {
-        Ok(()) => refused(Refusal::NotListed),
-        Err(refusal) => refused(refusal),
+        Ok(()) => refused(Refusal::NotListed.code()),
+        Err(refusal) => refused(refusal.code()),
     }
 }
 
@@ -80,7 +80,7 @@ pub fn velbus_write(kind: u32, message: &[u8], out: &mut [u8]) -> u32
     ensures out_after { out.new ≡ write_into kind message.now out.old }
 {
     if message.len() < MESSAGE_SIZE as usize {
-        return refused(Refusal::TooShort);
+        return refused(Refusal::TooShort.code());
     }
     write_held(kind, held_in(message), out)
 }

@@ -2,6 +2,7 @@
 #![tactic(auto)]
 
 mod benches;
+mod codes;
 mod frames;
 mod pictures;
 mod plans;

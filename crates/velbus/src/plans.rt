@@ -18,6 +18,6 @@ pub fn velbus_right_plan(picture: &[u8], address: u32, starts: &[u8]) -> u32
 {
     match plan::right_plan_bytes(picture, AddressAsked(address), starts) {
         Ok(right) => right as u32,
-        Err(refusal) => refused(refusal),
+        Err(refusal) => refused(refusal.code()),
     }
 }

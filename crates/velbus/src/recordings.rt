@@ -12,7 +12,7 @@ fn put_word(put: Result<usize, Refusal>) -> u32
 {
     match put {
         Ok(count) => (count % 65536) as u32,
-        Err(refusal) => refused(refusal),
+        Err(refusal) => refused(refusal.code()),
     }
 }
 

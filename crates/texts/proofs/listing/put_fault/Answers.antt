@@ -7,11 +7,11 @@ use Rattle.texts.proofs.listing.put_fault.Goals as goal
 
 pub put_broken_line-requires : goal.put_broken_line-requires
 unfolding fault_text
-put_broken_line-requires c = rw c.code.ensures (rw c.in-Some.is at c.requires)
+put_broken_line-requires c = rw c.in-Some.is at c.requires
 
 pub returns-in-Some : goal.returns-in-Some
 unfolding fault_text
-returns-in-Some c = rw c.in-Some.is (rw c.code.ensures at c.put_broken_line.ensures)
+returns-in-Some c = rw c.in-Some.is c.put_broken_line.ensures
 
 pub returns-in-None : goal.returns-in-None
 unfolding fault_text

@@ -3,4 +3,4 @@ use borrow.Author.Rules.{rules}
 use Rattle.velbus.proofs.pictures.velbus_led.Goals as goal
 
 pub returns : goal.returns
-returns c = rw (← c.led.ensures) c.answer_word.ensures
+returns c = rw (← c.led.ensures, ← c.by_code.ensures) c.answer_word.ensures
