@@ -1,12 +1,11 @@
 -- A refusal is read back from its code, so that no two have one; and so of all that holds a refusal. Assumes nothing.
 use Rattle.std.proofs.Common.{◌≡◌, ℕ, ◌+◌, ◌*◌, ◌/◌, ◌%◌, cond, eqb, Result, Ok, Err, refl, sym, ap, ◌∙◌, eq-eqb, arith}
 use Rattle.std.proofs.Common.{Bool, true, false, Option, None, Some, option_map}
-use Rattle.std.specs.Prelude.{◌<◌, IfSome, unwrap_or}
 use Rattle.laws.specs.Codes.{code_of, coded, code_in}
 use Rattle.laws.proofs.Codes.{some_code}
-use Rattle.places.specs.Places.{places, nowhere}
 use Rattle.shape.specs.Answers.{Answer, valued, filled}
 use Rattle.plan.specs.Replies.{judged}
+use Rattle.demands.specs.Determined.{OneBelow}
 use Rattle.recording.specs.Record.{told_fault, told}
 use Rattle.recording.specs.declared.records.Fault.{Fault}
 use Rattle.replay.specs.declared.records.Replay as code
@@ -111,11 +110,12 @@ one_filling x y e = one_result x y (sym (done_back (coded x)) ∙ ap done_in e �
 pub one_judgement : (x y : Result Bool Refusal) → judged (coded x) ≡ judged (coded y) → x ≡ y
 one_judgement x y e = one_result x y (sym (yes_back (coded x)) ∙ ap yes_in e ∙ yes_back (coded y))
 
-pub one_place : (x y : Option ℕ) → IfSome x (λ place. place < places) → IfSome y (λ place. place < places) → unwrap_or x nowhere ≡ unwrap_or y nowhere → x ≡ y
-one_place None None hx hy e = refl
-one_place None (Some y) hx hy e = absurd (omega arith)
-one_place (Some x) None hx hy e = absurd (omega arith)
-one_place (Some x) (Some y) hx hy e = ap Some e
+-- where the number for none is the bound
+pub one_below : (bound : ℕ) → OneBelow bound bound
+one_below bound None None hx hy e = refl
+one_below bound None (Some y) hx hy e = absurd (omega arith)
+one_below bound (Some x) None hx hy e = absurd (omega arith)
+one_below bound (Some x) (Some y) hx hy e = ap Some e
 
 one_fault : (x y : Fault) → told_fault x ≡ told_fault y → x ≡ y
 one_fault x y e =

@@ -1,7 +1,9 @@
 -- No promise leaves a choice, as specs/Determined.antt states it: one law for every line. Assumes nothing.
 use Rattle.laws.proofs.Promises.{of_answer, of_lent, of_two_lent, no_choice}
+use Rattle.shape.specs.Limits.{room}
+use Rattle.places.specs.Places.{places}
 use Rattle.demands.specs.Determined.{Determined}
-use Rattle.demands.proofs.Codes.{one_code, one_result, one_test, one_value, one_filling, one_judgement, one_place, one_record, one_replay, one_part}
+use Rattle.demands.proofs.Codes.{one_code, one_result, one_test, one_value, one_filling, one_judgement, one_below, one_record, one_replay, one_part}
 
 pub determined : Determined
 determined =
@@ -13,7 +15,8 @@ determined =
       one_value = one_value;
       one_filling = one_filling;
       one_judgement = one_judgement;
-      one_place = one_place;
+      one_place = one_below places;
+      one_slot = one_below room;
       one_record = one_record;
       one_replay = one_replay;
       one_part = one_part;

@@ -8,6 +8,8 @@ use Rattle.laws.specs.declared.refusals.Refusal.{Refusal}
 use Rattle.laws.specs.Promises.{OneAnswer, OneResult, OneOutcome, NoChoice}
 use Rattle.judging.specs.Reading.{reading}
 use Rattle.places.specs.Places.{places, nowhere}
+use Rattle.shape.specs.Limits.{room}
+use Rattle.shape.specs.Head.{no_slot}
 use Rattle.shape.specs.Answers.{valued, filled}
 use Rattle.shape.specs.Result.{Result}
 use Rattle.picture.specs.Hearing.{hearing}
@@ -42,6 +44,13 @@ OneReply r = OneResult r.answer r.buffer × OneResult (answer_word r.answer) r.b
 abbrev pub OneTaking : Outcome → Type 0
 OneTaking o = OneOutcome o.answer o.bench o.buffer × OneOutcome (taken_word o.answer) o.bench o.buffer
 
+-- what may be none, or a number below a bound, and is told as a number for none
+abbrev pub Below : ℕ → Option ℕ → Type 0
+Below bound x = IfSome x (λ n. n < bound)
+
+abbrev pub OneBelow : ℕ → ℕ → Type 0
+OneBelow bound none = (x y : Option ℕ) → Below bound x → Below bound y → unwrap_or x none ≡ unwrap_or y none → x ≡ y
+
 pub record Determined : Type 1 where
   -- whatever the definitions are
   pub no_choice : NoChoice
@@ -52,7 +61,9 @@ pub record Determined : Type 1 where
   pub one_value : (x y : Answered ℕ Refusal) → valued (coded x) ≡ valued (coded y) → x ≡ y
   pub one_filling : (x y : Answered (Unit {0}) Refusal) → filled (coded x) ≡ filled (coded y) → x ≡ y
   pub one_judgement : (x y : Answered Bool Refusal) → judged (coded x) ≡ judged (coded y) → x ≡ y
-  pub one_place : (x y : Option ℕ) → IfSome x (λ place. place < places) → IfSome y (λ place. place < places) → unwrap_or x nowhere ≡ unwrap_or y nowhere → x ≡ y
+  -- a place of a record, none as `nowhere`; and a slot, none as `no_slot`
+  pub one_place : OneBelow places nowhere
+  pub one_slot : OneBelow room no_slot
   pub one_record : {A : Type 0} (x y : Answered A Fault) → told x ≡ told y → x ≡ y
   pub one_replay : (x y : Answered code.Replay Refusal) → told_replayed x ≡ told_replayed y → x ≡ y
   pub one_part : (x y : Answered part.Stream Refusal) → told_part x ≡ told_part y → x ≡ y
