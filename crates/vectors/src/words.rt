@@ -40,7 +40,8 @@ fn identifier(address: u64, priority: u64) -> Option<u64> {
     Some(512 * priority + 2 * address)
 }
 
-fn with_number(mut r: Reader, n: u64, next: usize) -> Option<Reader> {
+// The steps change the question as far as it is read, and answer whether they could read on: handed on by value it would be copied at every word.
+fn with_number(r: &mut Reader, n: u64, next: usize) -> Option<()> {
     let Ok(n) = u32::try_from(n) else {
         return None;
     };
@@ -53,21 +54,21 @@ fn with_number(mut r: Reader, n: u64, next: usize) -> Option<Reader> {
         2 => r.c = n,
         _ => r.d = n,
     }
-    Some(r)
+    Some(())
 }
 
-fn with_gap(mut r: Reader, n: u64, next: usize) -> Reader {
+fn with_gap(r: &mut Reader, n: u64, next: usize) {
     r.gap = n;
     r.at = next;
-    r
 }
 
 // A remote flag, which is 0 where none is named.
-fn take_flag(q: &[u8], r: Reader) -> Option<Reader> {
-    let w = word(q, r.at);
+fn take_flag(q: &[u8], r: &mut Reader) -> Option<()> {
+    let at = r.at;
+    let w = word(q, at);
     match named(&FLAGS, w) {
-        Some(n) => with_number(r, n, after(r.at, w)),
-        None => with_number(r, 0, r.at),
+        Some(n) => with_number(r, n, after(at, w)),
+        None => with_number(r, 0, at),
     }
 }
 
@@ -80,24 +81,25 @@ fn identified(w: &[u8], v: &[u8]) -> Option<u64> {
 }
 
 // An identifier, and the remote flag.
-fn take_frame(q: &[u8], r: Reader) -> Option<Reader> {
+fn take_frame(q: &[u8], r: &mut Reader) -> Option<()> {
     let w = word(q, r.at);
     let next = after(r.at, w);
     let v = word(q, next);
-    take_flag(q, with_number(r, identified(w, v)?, after(next, v))?)
+    with_number(r, identified(w, v)?, after(next, v))?;
+    take_flag(q, r)
 }
 
 // Bytes more; with more than there is room for, the question cannot be read.
-fn with_bytes(mut r: Reader, bytes: &[u8], next: usize) -> Option<Reader> {
+fn with_bytes(r: &mut Reader, bytes: &[u8], next: usize) -> Option<()> {
     let count = r.count;
     laws::copy_in(&mut r.bytes, count, bytes);
     r.count = past(count, bytes.len());
     r.at = next;
-    if r.count > ROOM { None } else { Some(r) }
+    if r.count > ROOM { None } else { Some(()) }
 }
 
 // Text between two quotes: a word ends with the second.
-fn take_quoted(q: &[u8], r: Reader) -> Option<Reader> {
+fn take_quoted(q: &[u8], r: &mut Reader) -> Option<()> {
     let from = past(r.at, 1);
     let to = find(q, from, b'"');
     let w = word(q, to);
@@ -107,15 +109,16 @@ fn take_quoted(q: &[u8], r: Reader) -> Option<Reader> {
     with_bytes(r, part(q, from, to), after(to, w))
 }
 
-fn take_byte(q: &[u8], r: Reader) -> Option<Reader> {
-    let w = word(q, r.at);
+fn take_byte(q: &[u8], r: &mut Reader) -> Option<()> {
+    let at = r.at;
+    let w = word(q, at);
     let Ok(b) = u8::try_from(number(w, 16)?) else {
         return None;
     };
-    with_bytes(r, &[b], after(r.at, w))
+    with_bytes(r, &[b], after(at, w))
 }
 
-fn take_item(q: &[u8], r: Reader) -> Option<Reader> {
+fn take_item(q: &[u8], r: &mut Reader) -> Option<()> {
     if byte_at(q, r.at) == b'"' {
         take_quoted(q, r)
     } else {
@@ -124,23 +127,22 @@ fn take_item(q: &[u8], r: Reader) -> Option<Reader> {
 }
 
 // No question that can be read has more items than there is room for bytes.
-fn take_list(q: &[u8], first: Reader) -> Option<Reader> {
-    let mut r = first;
+fn take_list(q: &[u8], r: &mut Reader) -> Option<()> {
     for _ in 0..ROOM {
         if r.at >= q.len() {
             break;
         }
-        r = take_item(q, r)?;
+        take_item(q, r)?;
     }
-    Some(r)
+    Some(())
 }
 
-fn take_itself(mut r: Reader, w: &[u8], p: &[u8]) -> Option<Reader> {
+fn take_itself(r: &mut Reader, w: &[u8], p: &[u8]) -> Option<()> {
     if w != p {
         return None;
     }
     r.at = after(r.at, w);
-    Some(r)
+    Some(())
 }
 
 // The number that a word is, by the letter for it.
@@ -155,12 +157,13 @@ fn value(letter: u8, w: &[u8]) -> Option<u64> {
 }
 
 // What one word of a pattern stands for.
-fn take(q: &[u8], p: &[u8], r: Reader) -> Option<Reader> {
+fn take(q: &[u8], p: &[u8], r: &mut Reader) -> Option<()> {
     let letter = byte_at(p, 0);
-    let w = word(q, r.at);
+    let at = r.at;
+    let w = word(q, at);
     match letter {
-        b'T' | b'P' | b'A' | b'H' | b'D' => with_number(r, value(letter, w)?, after(r.at, w)),
-        b'G' => Some(with_gap(r, value(letter, w)?, after(r.at, w))),
+        b'T' | b'P' | b'A' | b'H' | b'D' => with_number(r, value(letter, w)?, after(at, w)),
+        b'G' => Some(with_gap(r, value(letter, w)?, after(at, w))),
         b'F' => take_frame(q, r),
         b'B' => take_list(q, r),
         _ => take_itself(r, w, p),
@@ -190,7 +193,7 @@ pub(crate) fn take_all(q: &[u8], pattern: &[u8], letter: u8) -> Option<Reader> {
         if p.is_empty() {
             break;
         }
-        r = take(q, p, r)?;
+        take(q, p, &mut r)?;
     }
     if r.at == after(0, q) { Some(r) } else { None }
 }
